@@ -1,0 +1,2 @@
+-- The laws of `ballot`.
+pub mod Laws

@@ -1,0 +1,2 @@
+-- The definitions of `ballot`.
+pub mod Ballot

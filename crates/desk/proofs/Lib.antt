@@ -1,0 +1,4 @@
+-- The desk's claim, and that every promise allows one outcome.
+pub mod Rows
+pub mod Answers
+pub mod Lent

@@ -1,0 +1,2 @@
+-- What the desk claims.
+pub mod Desk

@@ -1,0 +1,3 @@
+-- The laws of `leader_state`.
+pub mod Chosen
+pub mod Past

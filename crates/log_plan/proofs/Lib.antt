@@ -1,0 +1,2 @@
+-- The laws of `log_plan`.
+pub mod Ends

@@ -1,0 +1,2 @@
+-- The definitions of `log_plan`.
+pub mod Log

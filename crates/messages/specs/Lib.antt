@@ -1,0 +1,2 @@
+-- The definitions of `messages`.
+pub mod Messages

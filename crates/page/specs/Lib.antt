@@ -1,0 +1,2 @@
+-- The definitions of `page`: the lines of a report.
+pub mod Page

@@ -1,0 +1,2 @@
+-- The laws of `paxos_box`.
+pub mod Rooms

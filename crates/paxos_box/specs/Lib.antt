@@ -1,0 +1,3 @@
+-- The definitions of `paxos_box`.
+pub mod Box
+pub mod Room

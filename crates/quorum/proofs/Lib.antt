@@ -1,0 +1,2 @@
+-- The laws of `quorum`.
+pub mod Laws

@@ -1,0 +1,2 @@
+-- The definitions of `quorum`.
+pub mod Quorum

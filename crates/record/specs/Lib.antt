@@ -1,0 +1,2 @@
+-- The definitions of `record`.
+pub mod Record

@@ -1,0 +1,2 @@
+-- The laws of `sends`.
+pub mod Turns

@@ -1,0 +1,2 @@
+-- The definitions of `sends`.
+pub mod Sends

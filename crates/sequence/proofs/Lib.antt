@@ -1,0 +1,2 @@
+-- The laws of `sequence`.
+pub mod Laws

@@ -1,0 +1,2 @@
+-- The definitions of `sequence`.
+pub mod Sequence
