@@ -1,0 +1,2 @@
+-- The definitions of `follower`.
+pub mod Follower

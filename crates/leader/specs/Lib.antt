@@ -1,0 +1,2 @@
+-- The definitions of `leader`.
+pub mod Leader

@@ -1,0 +1,3 @@
+-- The definitions of `sequence_paxos`.
+pub mod Decide
+pub mod Fit
