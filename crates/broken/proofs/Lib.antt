@@ -1,0 +1,2 @@
+-- The laws of `broken`: tests tried one after the other.
+pub mod Chain

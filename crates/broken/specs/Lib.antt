@@ -1,0 +1,3 @@
+-- The definitions of `broken`.
+pub mod Lent
+pub mod Broken

@@ -1,0 +1,2 @@
+-- The definitions of `heads`.
+pub mod Heads

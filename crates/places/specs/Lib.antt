@@ -1,0 +1,2 @@
+-- The definitions of `places`.
+pub mod Places

@@ -1,0 +1,2 @@
+-- The definitions of `sight`.
+pub mod Sight

@@ -1,0 +1,2 @@
+-- The definitions of `unfit`.
+pub mod Unfit
