@@ -1,0 +1,2 @@
+-- The definitions of `storage`.
+pub mod Storage
