@@ -2,3 +2,4 @@
 pub mod Rows
 pub mod Answers
 pub mod Lent
+pub mod Step

@@ -1,0 +1,2 @@
+-- Laws that the proofs of `depot` use.
+pub mod Laws

@@ -1,0 +1,3 @@
+-- The definitions of `runs`.
+pub mod Runs
+pub mod Claim

@@ -1,0 +1,3 @@
+-- The definitions of `step`.
+pub mod Step
+pub mod Writable

@@ -1,0 +1,1 @@
+// No code: the theorems that hold of the whole step stand in proofs/.
