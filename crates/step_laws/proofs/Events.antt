@@ -1,5 +1,5 @@
 -- A closed fact along every event but a drain and a restart.
-use Prim.Native.Nat.{ℕ, _≤_, _<_}
+use Prim.Native.Nat.{ℕ}
 use mathlib.Core.Path.{_≡_, refl}
 use mathlib.Core.Bool.{Bool, true, false, cond}
 use mathlib.Core.List.{List}
@@ -22,7 +22,7 @@ use Rattle.paxos_box.specs.declared.Role.the-variants.{Leader, Follower}
 use Rattle.sequence_paxos.specs.Decide.{reportOf, broughtBy, handle, resendBy, taken}
 use Rattle.sight.specs.Sight.{syncIn, brought}
 use Rattle.refusals.proofs.Taken.{Depot, Real, Brings, Sender, MessageFit, EventFit}
-use Rattle.step_laws.proofs.Moves.{Brought, Closed, Found}
+use Rattle.step_laws.proofs.Moves.{Closed, Found}
 use Rattle.step_laws.proofs.Leader.{Arrives, along-leader, along-prepare-req, along-proposal, along-promise, along-accepted, along-not-accepted, along-resend-leader}
 use Rattle.step_laws.proofs.Follower.{along-reconnected, along-prepare, along-acceptsync, along-acceptdecide, along-told-decided, along-resend-follower}
 

@@ -1,5 +1,5 @@
 -- What refusals 1 to 4 leave is what deciding asks of a box and an event; and what a step that is not refused decides can be written.
-use Prim.Native.Nat.{ℕ, _+_, _≤_, _<_}
+use Prim.Native.Nat.{ℕ, _+_, _≤_}
 use mathlib.Core.Path.{_≡_, refl, ap}
 use mathlib.Core.Logic.{_⊎_, inl, inr}
 use mathlib.Core.Bool.{Bool, true, false, cond}
@@ -30,18 +30,18 @@ use Rattle.record.specs.declared.Record.{Record}
 use Rattle.hire_book.specs.Book.{anyAbove}
 use Rattle.sight.specs.Sight.{queueEntries, sightOf}
 use Rattle.broken.specs.Lent.{Lent}
-use Rattle.broken.specs.Broken.{bestSync, syncIn}
+use Rattle.broken.specs.Broken.{syncIn}
 use Rattle.refusals.proofs.Taken.{Depot, SyncFit, MessageFit, EventFit, Taken}
 use Rattle.refusals.proofs.Sound.{room}
-use Rattle.paxos_box.specs.Room.{newIn, countIn, itemsOf, Room}
 use Rattle.storage.specs.Storage.{endAfter, bufferCount}
 use Rattle.outgoing.specs.Perform as perform
+use Rattle.outgoing.proofs.Kept.{fits-sums}
 use Rattle.step.specs.Step.{World, boxOf, logOf}
 use Rattle.step.specs.Writable.{Writable}
 use Rattle.step_laws.proofs.Moves.{Found}
 use Rattle.step_laws.proofs.Events.{Queues, along-event}
-use Rattle.step_laws.proofs.Written.{Plans, Planned, planned-closed}
-use Rattle.step_laws.proofs.Queue.{carried-found, new-same, count-same}
+use Rattle.step_laws.proofs.Written.{Planned, planned-closed}
+use Rattle.step_laws.proofs.Queue.{carried-found}
 use Rattle.step_laws.proofs.Log.{fit-op, fit-log, none-first}
 
 few : (m : CachedMessage) (buffer : List ℕ) → SyncFit (syncIn m) buffer → fewCached m
@@ -127,41 +127,42 @@ module _ (c : Configuration) (e : Event) (entries : List ℕ) (w : World) (t : T
         own = t .stands .own;
       }
 
-  nothing-planned : Planned c entries (found c e entries w) 0 (found c e entries w)
-  unfolding boxOf newIn countIn
+  nothing-planned : Planned c e entries (found c e entries w) 0 (found c e entries w)
+  unfolding boxOf perform.newIn perform.countIn
   nothing-planned =
       record {
         config = refl;
         queue = refl;
         things = omega arith;
-        sums = record { room = refl; messages = refl; entries = refl };
+        sums = record { places = refl; things = omega arith; messages = refl; entries = refl };
         ends = omega arith;
         op = tt;
         kept = omega arith;
+        rises = omega arith;
         decided = t .whole .decided;
         held = omega arith;
         buffered = omega arith;
         buffer = inl refl;
       }
 
-drained-plans : (c : Configuration) (entries : List ℕ) (f s : SequencePaxos) → Planned c entries f 0 s → Planned c entries f 7 (drained s)
+drained-plans : (c : Configuration) (entries : List ℕ) (f s : SequencePaxos) → Planned c event.Drain entries f 0 s → Planned c event.Drain entries f 7 (drained s)
 unfolding drained
 drained-plans c entries f s p = planned-closed c event.Drain entries f .more 0 7 s (omega arith) p
 
-restarted-plans : (c : Configuration) (entries : List ℕ) (f s : SequencePaxos) → bufferCount (s .plan .writes .buffer) ≡ 0 → Planned c entries f 0 s → Planned c entries f 7 (restarted s)
+restarted-plans : (c : Configuration) (entries : List ℕ) (f s : SequencePaxos) → bufferCount (s .plan .writes .buffer) ≡ 0 → Planned c event.Restart entries f 0 s → Planned c event.Restart entries f 7 (restarted s)
 unfolding restarted
 restarted-plans c entries f s n p =
-    record { config = p .config; queue = p .queue; things = omega (arith, p .things); sums = p .sums; ends = p .ends; op = p .op; kept = p .kept; decided = p .decided; held = p .held; buffered = omega arith; buffer = inl n }
+    record { config = p .config; queue = p .queue; things = omega (arith, p .things); sums = p .sums; ends = p .ends; op = p .op; kept = p .kept; rises = p .rises; decided = p .decided; held = p .held; buffered = omega arith; buffer = inl n }
 
 -- what every step plans
-pub planned-taken : (c : Configuration) (e : Event) (entries : List ℕ) (w : World) → Taken c (w .node) (w .row) (w .lists) e entries → Planned c entries (found c e entries w) 7 (taken e (length entries) (found c e entries w))
+pub planned-taken : (c : Configuration) (e : Event) (entries : List ℕ) (w : World) → Taken c (w .node) (w .row) (w .lists) e entries → Planned c e entries (found c e entries w) 7 (taken e (length entries) (found c e entries w))
 planned-taken c e entries w t = by e t
   where
-    queued : (e : Event) → Queues e → Taken c (w .node) (w .row) (w .lists) e entries → Planned c entries (found c e entries w) 7 (taken e (length entries) (found c e entries w))
+    queued : (e : Event) → Queues e → Taken c (w .node) (w .row) (w .lists) e entries → Planned c e entries (found c e entries w) 7 (taken e (length entries) (found c e entries w))
     queued e q t =
-        along-event c entries (found c e entries w) (Planned c entries (found c e entries w)) (as-found c e entries w t) (nothing-planned c e entries w t) e (planned-closed c e entries (found c e entries w)) q (t .event)
+        along-event c entries (found c e entries w) (Planned c e entries (found c e entries w)) (as-found c e entries w t) (nothing-planned c e entries w t) e (planned-closed c e entries (found c e entries w)) q (t .event)
 
-    by : (e : Event) → Taken c (w .node) (w .row) (w .lists) e entries → Planned c entries (found c e entries w) 7 (taken e (length entries) (found c e entries w))
+    by : (e : Event) → Taken c (w .node) (w .row) (w .lists) e entries → Planned c e entries (found c e entries w) 7 (taken e (length entries) (found c e entries w))
     by (event.Message m) t = queued (event.Message m) tt t
     by event.Propose t = queued event.Propose tt t
     by (event.Leader n) t = queued (event.Leader n) tt t
@@ -171,8 +172,8 @@ planned-taken c e entries w t = by e t
     by event.Restart t = restarted-plans c entries (found c event.Restart entries w) (found c event.Restart entries w) (ap bufferCount (as-found c event.Restart entries w t .writes .buffer)) (nothing-planned c event.Restart entries w t)
 
 -- what a step that is not refused writes fits
-module _ (c : Configuration) (e : Event) (entries : List ℕ) (w : World) (t : Taken c (w .node) (w .row) (w .lists) e entries) (s : SequencePaxos) (p : Planned c entries (found c e entries w) 7 s) (o : Passes s) where
-  ends-within : endAfter (s .plan .writes .log) (w .node .«internal_storage» .«accepted_idx») + s .plan .writes .buffered ≤ maxLog
+module _ (c : Configuration) (e : Event) (entries : List ℕ) (w : World) (t : Taken c (w .node) (w .row) (w .lists) e entries) (s : SequencePaxos) (p : Planned c e entries (found c e entries w) 7 s) (o : Passes s) where
+  pub ends-within : endAfter (s .plan .writes .log) (w .node .«internal_storage» .«accepted_idx») + s .plan .writes .buffered ≤ maxLog
   unfolding boxOf
   ends-within = omega (arith, p .ends, o .log)
 
@@ -184,22 +185,16 @@ module _ (c : Configuration) (e : Event) (entries : List ℕ) (w : World) (t : T
       let cells : endAfter op len ≤ length (w .lists .log) = omega (arith, ends-within, t .lengths .log) in
       none-first _ (s .«internal_storage» .«decided_idx») (endAfter op len) (p .decided)
       (fit-log op len entries (w .lists .best) (w .node .«buffered_proposals» .entries) (s .plan .writes .buffered) (w .lists .log) cells
-      (fit-op op len entries (w .lists .best) (w .lists .log) (bestSync (w .node)) (t .lengths .best) (omega (arith, t .lengths .log, t .whole .ends)) (t .whole .log) (t .whole .best) (p .op)))
+      (fit-op op e entries (w .lists .best) (w .lists .log) (found c e entries w) (t .lengths .best) (omega (arith, t .lengths .log, t .whole .ends)) (t .whole .log) (t .whole .best) (p .op)))
 
-  fits : perform.Fits (w .node .outgoing) (s .plan .sends) (w .row) (w .lists .store)
+  pub fits : perform.Fits (w .node .outgoing) (s .plan .sends) (w .row) (w .lists .store)
   unfolding boxOf
   fits =
       let n : s .outgoing .len ≡ w .node .outgoing = ap (λ (q : Outgoing). q .len) (p .queue) in
       let k : s .outgoing .entries ≡ queueEntries (w .row) (w .node .outgoing) = ap (λ (q : Outgoing). q .entries) (p .queue) in
-      record {
-        size = t .lengths .store;
-        inside = λ k l. t .whole .heads k l .inside;
-        things = omega (arith, p .things);
-        messages = omega (arith, n, o .messages, p .sums .messages, new-same (itemsOf (s .plan .sends)));
-        entries = omega (arith, k, o .entries, p .sums .entries, count-same (itemsOf (s .plan .sends)), carried-found (w .row) (w .node .outgoing));
-      }
+      fits-sums (w .node .outgoing) (s .plan .sends) (w .row) (w .lists .store) (p .sums) (t .lengths .store) (λ k l. t .whole .heads k l .inside) (omega (arith, n, o .messages)) (omega (arith, k, o .entries, carried-found (w .row) (w .node .outgoing)))
 
-  buffer-fits : w .node .«buffered_proposals» .len + bufferCount (s .plan .writes .buffer) ≤ maxBuffered
+  pub buffer-fits : w .node .«buffered_proposals» .len + bufferCount (s .plan .writes .buffer) ≤ maxBuffered
   unfolding boxOf
   buffer-fits = by (p .buffer)
     where

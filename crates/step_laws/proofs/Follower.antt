@@ -1,7 +1,7 @@
 -- A closed fact along each handler of a follower.
-use Prim.Native.Nat.{ℕ, _+_, _-_, _≤_, _<_, min}
-use mathlib.Core.Path.{_≡_, refl, ap}
-use mathlib.Core.Bool.{Bool, true, false, cond}
+use Prim.Native.Nat.{ℕ, _+_, _≤_, min}
+use mathlib.Core.Path.{_≡_, refl}
+use mathlib.Core.Bool.{false, cond}
 use mathlib.Core.List.{List}
 use native.Mathlib.Omega.{arith}
 use lib.Dec.{ltb, eqb}
@@ -39,10 +39,10 @@ use Rattle.paxos_box.specs.Box.{unfit, atTop, withState, setPromised, setDecide
 use Rattle.sends.specs.declared.Each.the-variants as each
 use Rattle.sends.specs.Sends.{logLength, syncFits, sendPrepareReq, peersOf}
 use Rattle.log_plan.specs.Log.{syncEnd, syncUnfit, syncLog, appendGiven, hasLeader, pushForward, forwardBuffered}
-use Rattle.follower.specs.Follower.{recovering, leftLeader, reconnectedOf, logFrom, promisedSync, logSource, buildFits, promiseOf, sendPromise, cachePromise, tellPromise, promiseTo, prepareTaken, handlePrepare, byBallot, ifValidBallot, sendAccepted, givenSync, acceptsyncPut, following, acceptsyncTaken, acceptsyncIn, handleAcceptsync, counterAtTop, byStatus, ifExpected, latestAccepted, replyBy, replyAccepted, updateDecided, acceptdecideTaken, acceptdecideFit, acceptdecideIn, handleAcceptdecide, decideTaken, decideExpected, decideInAccept, handleDecide, resendCached, resendIn, resendMessagesFollower}
-use Rattle.refusals.proofs.Taken.{Depot, Known, Real, Fit, Led, Reports}
-use Rattle.step_laws.proofs.Moves.{either, Unwritten, PutFits, Brought, Tells, Closed, Found}
-use Rattle.step_laws.proofs.Sends.{along-fits, along-marked}
+use Rattle.follower.specs.Follower.{recovering, leftLeader, reconnectedOf, logFrom, promisedSync, logSource, buildFits, promiseOf, sendPromise, cachePromise, tellPromise, promiseTo, prepareTaken, handlePrepare, byBallot, ifValidBallot, sendAccepted, givenSync, acceptsyncPut, following, acceptsyncTaken, acceptsyncIn, handleAcceptsync, counterAtTop, byStatus, ifExpected, latestAccepted, replyBy, replyAccepted, updateDecided, acceptdecideTaken, acceptdecideFit, acceptdecideIn, handleAcceptdecide, decideTaken, decideExpected, handleDecide, resendCached, resendIn, resendMessagesFollower}
+use Rattle.refusals.proofs.Taken.{Real, Fit, Reports}
+use Rattle.step_laws.proofs.Moves.{either, Unwritten, Brought, Tells, Closed, Found}
+use Rattle.step_laws.proofs.Sends.{along-marked}
 use Rattle.step_laws.proofs.Leader.{put-fits}
 
 -- the sync that a Promise tells is a part of the log

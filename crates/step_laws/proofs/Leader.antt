@@ -1,5 +1,5 @@
 -- A closed fact along each handler of a leader.
-use Prim.Native.Nat.{ℕ, _+_, _-_, _≤_, _<_}
+use Prim.Native.Nat.{ℕ, _≤_}
 use mathlib.Core.Path.{_≡_, refl, ap, _∙_}
 use mathlib.Core.Bool.{Bool, true, false, cond}
 use mathlib.Core.List.{List}
@@ -7,7 +7,6 @@ use native.Mathlib.Omega.{arith}
 use lib.Dec.{ltb, eqb}
 use lib.ListN.{length}
 use borrow.Author.Tests.{ltb-true, ltb-false, eqb-true}
-use Rattle.base.specs.Limits.{maxLog}
 use Rattle.ballot.specs.Ballot.{above, same}
 use Rattle.ballot.specs.declared.Ballot.{Ballot}
 use Rattle.ballot.proofs.Laws.{same-eq}
@@ -15,7 +14,6 @@ use Rattle.quorum.specs.declared.Configuration.{Configuration}
 use Rattle.leader_state.specs.declared.LogSync.{LogSync}
 use Rattle.leader_state.specs.declared.HeldSync.{HeldSync}
 use Rattle.leader_state.specs.declared.HeldSync.the-variants.{Nothing, Held}
-use Rattle.leader_state.specs.declared.MaxPromise.{MaxPromise}
 use Rattle.leader_state.specs.declared.PromiseMetaData.{PromiseMetaData}
 use Rattle.leader_state.specs.declared.PromiseState.the-variants.{NotPromised, PromisedHigher}
 use Rattle.leader_state.specs.declared.Latest.the-variants as latest
@@ -36,12 +34,12 @@ use Rattle.paxos_box.specs.declared.BufferOp.the-variants as buffer-op
 use Rattle.paxos_box.specs.declared.Source.the-variants.{Given}
 use Rattle.paxos_box.specs.Box.{unfit, withState, withLeader, setDecided, isLeader, standingOf}
 use Rattle.sends.specs.declared.Each.the-variants as each
-use Rattle.sends.specs.Sends.{onDepot, logLength, setLatestOf, accSyncTo, peersOf}
+use Rattle.sends.specs.Sends.{onDepot, logLength, setLatestOf, peersOf}
 use Rattle.log_plan.specs.Log.{syncEnd, endsPast, putUnfit, syncUnfit, syncLog, appendGiven, appendBuffered, bufferGiven, hasLeader, pushForward, forwardProposals}
 use Rattle.log_plan.proofs.Ends.{ends-within, fit-within}
-use Rattle.leader.specs.Leader.{forFollowers, forPreparable, forPeers, keepPromise, reached, newLeader, ownPromise, becomeLeader, becomeFollower, handleLeader, prepareAgain, handlePrepareReq, setAcceptedOf, ownAccepted, acceptEntriesLeader, proposalIn, handleForwardedProposal, putOp, changeOf, leaderSyncs, syncHeld, syncBy, syncWithBest, syncTaken, handleMajorityPromises, keepSync, handlePromisePrepare, handlePromiseAccept, bringsPast, promiseIn, handlePromise, newlyChosen, decideIfChosen, acceptedTaken, acceptedIn, handleAccepted, lostPromise, handleNotAccepted, resendIn, resendMessagesLeader}
+use Rattle.leader.specs.Leader.{forFollowers, keepPromise, reached, newLeader, ownPromise, becomeLeader, becomeFollower, handleLeader, prepareAgain, handlePrepareReq, setAcceptedOf, ownAccepted, acceptEntriesLeader, proposalIn, handleForwardedProposal, putOp, changeOf, leaderSyncs, syncHeld, syncBy, syncWithBest, syncTaken, handleMajorityPromises, keepSync, handlePromisePrepare, handlePromiseAccept, bringsPast, promiseIn, handlePromise, newlyChosen, decideIfChosen, acceptedTaken, acceptedIn, handleAccepted, lostPromise, handleNotAccepted, resendIn, resendMessagesLeader}
 use Rattle.refusals.proofs.Taken.{Depot, Known, Real, Fit}
-use Rattle.step_laws.proofs.Moves.{either, Unwritten, PutFits, Brought, Holds, Closed, Found}
+use Rattle.step_laws.proofs.Moves.{either, PutFits, Brought, Holds, Closed, Found}
 use Rattle.step_laws.proofs.Sends.{mild-forget, mild-accepted, mild-promise, along-sync-to, along-marked}
 
 -- a test of a chain of tests that does not hold leaves it to the rest

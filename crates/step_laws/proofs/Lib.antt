@@ -1,10 +1,22 @@
 -- The laws of the whole step.
 pub mod Moves
+pub mod Plan
 pub mod Sends
 pub mod Leader
 pub mod Follower
 pub mod Events
 pub mod Written
-pub mod Queue
 pub mod Log
+pub mod Positions
+pub mod Ballots
+pub mod Entries
+pub mod Messages
+pub mod Queue
 pub mod Fits
+pub mod Unbroken
+pub mod After
+pub mod Outcome
+pub mod Whole
+pub mod Past
+pub mod Decided
+pub mod Step

@@ -1,8 +1,8 @@
 -- The entries of the log as a step leaves it are within their limit.
-use Prim.Native.Nat.{ℕ, zero, suc, _+_, _-_, _≤_, _<_}
+use Prim.Native.Nat.{ℕ, _+_, _-_, _≤_, _<_}
 use mathlib.Core.Path.{_≡_, refl, _∙_}
 use mathlib.Core.Bool.{Bool, true, false}
-use mathlib.Core.List.{List, [], _∷_, _++_}
+use mathlib.Core.List.{List, _++_}
 use native.Mathlib.Omega.{arith}
 use lib.Dec.{ltb}
 use lib.ListN.{length, take, drop, getD, length-take, List·getD-append}
@@ -10,12 +10,14 @@ use lib.Seq.{length-take-le, getD-take, getD-append-add}
 use borrow.Author.Tests.{ltb-true, ltb-false}
 use Rattle.base.specs.Limits.{maxLog, maxEntry}
 use Rattle.base.specs.Lists.{over}
-use Rattle.leader_state.specs.declared.HeldSync.{HeldSync}
 use Rattle.leader_state.specs.declared.HeldSync.the-variants.{Held}
+use Rattle.messages.specs.declared.Event.{Event}
+use Rattle.paxos_box.specs.declared.SequencePaxos.{SequencePaxos}
 use Rattle.paxos_box.specs.declared.LogOp.{LogOp}
 use Rattle.paxos_box.specs.declared.LogOp.the-variants as log
 use Rattle.hire_book.specs.Book.{anyAbove}
 use Rattle.hire_book.proofs.Entries.{none-above}
+use Rattle.sends.specs.Sends.{logLength}
 use Rattle.storage.specs.Storage.{putAt, endAfter, opOn, logAfter}
 use Rattle.storage.proofs.Laid.{length-put}
 use Rattle.outgoing.proofs.Cells.{put-at-before}
@@ -42,24 +44,24 @@ fit-put i xs l k f g j h = go (ltb j i) refl
         let w : getD (putAt i xs l) (i + (j - i)) 0 ≤ maxEntry = rw (put-at-within i (j - i) xs l k (omega arith)) (g (j - i) (omega arith)) in
         rw m at w
 
-fit-take : (n : ℕ) (l : List ℕ) → n ≤ length l → Fit l n → Fit (take n l) (length (take n l))
+pub fit-take : (n : ℕ) (l : List ℕ) → n ≤ length l → Fit l n → Fit (take n l) (length (take n l))
 fit-take n l k f i h = let m : length (take n l) ≡ n = length-take-le n l k in rw (getD-take n l i 0 (omega arith)) (f i (omega arith))
 
-fit-less : (l : List ℕ) (m n : ℕ) → m ≤ n → Fit l n → Fit l m
+pub fit-less : (l : List ℕ) (m n : ℕ) → m ≤ n → Fit l n → Fit l m
 fit-less l m n h f i k = f i (omega arith)
 
-fit-written : (i n : ℕ) (xs l : List ℕ) → i ≤ length l → n ≤ length xs → Fit l i → Fit xs n → Fit (putAt i (take n xs) l) (i + n)
+pub fit-written : (i n : ℕ) (xs l : List ℕ) → i ≤ length l → n ≤ length xs → Fit l i → Fit xs n → Fit (putAt i (take n xs) l) (i + n)
 fit-written i n xs l k h f g = let m : length (take n xs) ≡ n = length-take-le n xs h in rw m at (fit-put i (take n xs) l k f (fit-take n xs h g))
 
 -- the operation
-pub fit-op : (op : LogOp) (len : ℕ) (given held l : List ℕ) (best : HeldSync) → length held ≡ maxLog → len ≤ length l → Fit l len → SyncFit best held → OpFit given best len op → Fit (opOn op len given held l) (endAfter op len)
-fit-op log.Keep len given held l best c k f s o = f
-fit-op (log.Append n) len given held l best c k f s o = fit-written len n given l k (omega (arith, o .0)) f (fit-less given n (length given) (omega (arith, o .0)) (o .1))
-fit-op (log.PutGiven x) len given held l best c k f s o =
-    fit-written (x .«sync_idx») (x .len) given l (omega (arith, o .2)) (omega (arith, o .0)) (fit-less l (x .«sync_idx») len (o .2) f) (fit-less given (x .len) (length given) (omega (arith, o .0)) (o .1))
-fit-op (log.PutHeld x) len given held l best c k f s o =
+pub fit-op : (op : LogOp) (e : Event) (given held l : List ℕ) (found : SequencePaxos) → length held ≡ maxLog → logLength found ≤ length l → Fit l (logLength found) → SyncFit (found .«leader_state» .«max_promise» .sync) held → OpFit e given found op → Fit (opOn op (logLength found) given held l) (endAfter op (logLength found))
+fit-op log.Keep e given held l found c k f s o = f
+fit-op (log.Append n) e given held l found c k f s o = fit-written (logLength found) n given l k (omega (arith, o .0)) f (fit-less given n (length given) (omega (arith, o .0)) (o .1))
+fit-op (log.PutGiven x) e given held l found c k f s o =
+    fit-written (x .«sync_idx») (x .len) given l (omega (arith, o .1)) (omega (arith, o .0 .count)) (fit-less l (x .«sync_idx») (logLength found) (o .1) f) (fit-less given (x .len) (length given) (omega (arith, o .0 .count)) (o .0 .fit))
+fit-op (log.PutHeld x) e given held l found c k f s o =
     let b : SyncFit (Held x) held = rw (o .0) at s in
-    fit-written (x .«sync_idx») (x .len) held l (omega (arith, o .1)) (omega (arith, b .0)) (fit-less l (x .«sync_idx») len (o .1) f) (b .1)
+    fit-written (x .«sync_idx») (x .len) held l (omega (arith, o .1)) (omega (arith, b .0)) (fit-less l (x .«sync_idx») (logLength found) (o .1) f) (b .1)
 
 pub op-length : (op : LogOp) (len : ℕ) (given held l : List ℕ) → endAfter op len ≤ length l → length (opOn op len given held l) ≡ length l
 op-length log.Keep len given held l h = refl

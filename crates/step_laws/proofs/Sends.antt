@@ -1,8 +1,8 @@
 -- A closed fact along what is sent to one depot, and to each of several.
 use Prim.Native.Nat.{ℕ, zero, suc, _+_, _≤_, _<_}
 use mathlib.Core.Path.{_≡_, refl, ap}
-use mathlib.Core.Logic.{_⊎_, inl, inr}
-use mathlib.Core.Bool.{Bool, true, false, cond}
+use mathlib.Core.Logic.{inl, inr}
+use mathlib.Core.Bool.{Bool, true, false}
 use mathlib.Core.List.{List}
 use native.Mathlib.Omega.{arith}
 use lib.Dec.{ltb, leb}
@@ -22,7 +22,7 @@ use Rattle.paxos_box.specs.declared.InternalStorage.{InternalStorage}
 use Rattle.paxos_box.specs.Box.{unfit, atTop, pushOf, nextPlace}
 use Rattle.sends.specs.declared.Each.{Each}
 use Rattle.sends.specs.declared.Each.the-variants as each
-use Rattle.sends.specs.Sends.{theDepot, onDepot, logLength, syncFits, nextSessionOf, nextSeqNumOf, setLatestOf, newSession, pushAccSync, syncStartOf, sendAccSync, byPromise, accSyncTo, latestAccdec, joinTo, pushAcceptDecide, newAcceptDecide, acceptDecideBy, acceptDecideTo, pushDecide, decideBy, decideTo, sendOne, turnOf, forMarked}
+use Rattle.sends.specs.Sends.{theDepot, onDepot, logLength, syncFits, nextSessionOf, nextSeqNumOf, setLatestOf, newSession, syncStartOf, sendAccSync, byPromise, accSyncTo, latestAccdec, joinTo, pushAcceptDecide, newAcceptDecide, acceptDecideBy, acceptDecideTo, decideBy, decideTo, sendOne, turnOf, forMarked}
 use Rattle.refusals.proofs.Taken.{Depot}
 use Rattle.step_laws.proofs.Moves.{either, Mild, Closed}
 

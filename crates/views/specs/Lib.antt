@@ -1,0 +1,2 @@
+-- The definitions of `views`.
+pub mod View

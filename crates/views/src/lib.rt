@@ -1,0 +1,1 @@
+// No code: what a step does to a depot's lists, seen as lists of entries and of messages.
