@@ -1,0 +1,2 @@
+-- What is proved of every run.
+pub mod Local
