@@ -1,0 +1,2 @@
+-- The definitions of `table_laws`.
+pub mod Words
