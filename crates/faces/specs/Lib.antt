@@ -1,0 +1,2 @@
+-- The definitions of `faces`.
+pub mod Mid
