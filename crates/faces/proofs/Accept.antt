@@ -35,7 +35,7 @@ use Rattle.log_plan.specs.Log.{syncUnfit, syncLog, appendGiven, hasLeader, push
 use Rattle.follower.specs.Follower.{ifValidBallot, givenSync, acceptsyncPut, following, acceptsyncTaken, acceptsyncIn, handleAcceptsync, sendAccepted, counterAtTop, byStatus, ifExpected, updateDecided, acceptdecideTaken, acceptdecideFit, acceptdecideIn, handleAcceptdecide, decideTaken, decideExpected, decideInAccept, handleDecide, replyAccepted}
 use Rattle.outgoing.specs.Perform.{performAll}
 use Rattle.views.specs.View.{View, Counted}
-use Rattle.step_laws.proofs.Moves.{either}
+use Rattle.decide_laws.proofs.Grown.{either}
 use Rattle.agreement.specs.Order.{leaderOf}
 use Rattle.agreement.specs.Core.{Sizes, Ghost}
 use Rattle.agreement.specs.Report.{Syncs}

@@ -30,7 +30,7 @@ use Rattle.record.specs.Record.{loadOf}
 use Rattle.sends.specs.Sends.{peersOf}
 use Rattle.leader.specs.Leader.{newLeader, ownPromise, becomeLeader, becomeFollower, handleLeader}
 use Rattle.views.specs.View.{View, heldEntries, Counted}
-use Rattle.step_laws.proofs.Moves.{either}
+use Rattle.decide_laws.proofs.Grown.{either}
 use Rattle.agreement.specs.Order.{Below}
 use Rattle.agreement.specs.Core.{Sizes, Ghost}
 use Rattle.agreement.proofs.Order.{both, within-nothing}

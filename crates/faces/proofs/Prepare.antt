@@ -26,7 +26,7 @@ use Rattle.sends.specs.Sends.{logLength, suffixLength, syncFits}
 use Rattle.follower.specs.Follower.{logFrom, promisedSync, startOf, countOf, logSource, promiseOf, sendPromise, cachePromise, tellPromise, promiseTo, prepareTaken, handlePrepare}
 use Rattle.outgoing.specs.Perform.{performAll}
 use Rattle.views.specs.View.{View, Counted}
-use Rattle.step_laws.proofs.Moves.{either}
+use Rattle.decide_laws.proofs.Grown.{either}
 use Rattle.agreement.specs.Order.{Below, Upto}
 use Rattle.agreement.specs.Core.{Sizes, Ghost}
 use Rattle.agreement.specs.Report.{from, Asks, Answer}

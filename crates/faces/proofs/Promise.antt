@@ -45,7 +45,7 @@ use Rattle.leader.specs.Leader.{forFollowers, changeOf, putOp, leaderSyncs, syn
 use Rattle.follower.specs.Follower.{countOf}
 use Rattle.outgoing.specs.Perform.{performAll}
 use Rattle.views.specs.View.{View, heldEntries, logTo, bestTo, Counted}
-use Rattle.step_laws.proofs.Moves.{either}
+use Rattle.decide_laws.proofs.Grown.{either}
 use Rattle.agreement.specs.Order.{leaderOf}
 use Rattle.agreement.specs.Core.{Sizes, Ghost}
 use Rattle.agreement.specs.Report.{putOn, startOf, Report, Answer}

@@ -42,7 +42,7 @@ use Rattle.leader.specs.Leader.{ownAccepted, acceptEntriesLeader, proposalIn, h
 use Rattle.leader.specs.Leader as leader
 use Rattle.outgoing.specs.Perform.{performAll}
 use Rattle.views.specs.View.{View, Counted}
-use Rattle.step_laws.proofs.Moves.{either}
+use Rattle.decide_laws.proofs.Grown.{either}
 use Rattle.agreement.specs.Core.{Sizes, Ghost}
 use Rattle.agreement.specs.All.{All}
 use Rattle.agreement.proofs.Order.{both}

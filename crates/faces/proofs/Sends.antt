@@ -20,7 +20,7 @@ use Rattle.sends.specs.Sends.{sendNew, sendPrepare, sendPrepareReq, turnOf, for
 use Rattle.log_plan.specs.Log.{pushForward}
 use Rattle.follower.specs.Follower.{recovering, leftLeader, reconnectedOf, notAccepted}
 use Rattle.views.specs.View.{View}
-use Rattle.step_laws.proofs.Moves.{either}
+use Rattle.decide_laws.proofs.Grown.{either}
 use Rattle.agreement.specs.Core.{Sizes, Ghost}
 use Rattle.agreement.specs.All.{All, nil}
 use Rattle.agreement.specs.Stream.{plain}

@@ -37,7 +37,8 @@ use Rattle.storage.proofs.Every.{Every, every-none, every-take}
 use Rattle.outgoing.specs.Perform.{sources, sourceOf, entriesOf, itemsOf, newIn}
 use Rattle.refusals.proofs.Taken.{Fit, SyncFit, HeadFit, Taken}
 use Rattle.step.specs.Step.{World, boxOf, logOf, cachedOf, bestOf, bufferOf, queueOf, isRestart, newlyDecided, bookAfter}
-use Rattle.step_laws.proofs.Moves.{either, Tells}
+use Rattle.decide_laws.proofs.Grown.{either}
+use Rattle.step_laws.proofs.Moves.{Tells}
 use Rattle.step_laws.proofs.Queue.{Lies, found-lies, sizes-after, lies-after, head-after}
 use Rattle.step_laws.proofs.Log.{fit-op, op-length, fit-whole, fit-less, fit-written}
 use Rattle.step_laws.proofs.Written.{Planned}

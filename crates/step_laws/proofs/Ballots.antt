@@ -40,7 +40,8 @@ use Rattle.log_plan.specs.Log.{syncLog, appendGiven, appendBuffered, bufferGive
 use Rattle.leader.specs.Leader.{keepPromise, ownPromise, keepSync, ownMeta}
 use Rattle.follower.specs.Follower.{promiseOf, cachePromise, sendAccepted}
 use Rattle.refusals.proofs.Taken.{Depot, Known, Real, PromiseFit, CachedFit, BallotsKnown}
-use Rattle.step_laws.proofs.Moves.{either, Mild, Closed}
+use Rattle.decide_laws.proofs.Grown.{either}
+use Rattle.step_laws.proofs.Moves.{Mild, Closed}
 use Rattle.step_laws.proofs.Sends.{mild-counter}
 use Rattle.step_laws.proofs.Plan.{pushed, Items, items-pushed, set-place, first-place}
 

@@ -45,7 +45,8 @@ use Rattle.leader.specs.Leader.{ownPromise, ownMeta, keepSync}
 use Rattle.follower.specs.Follower.{countOf, logSource, cachedSource, keptSync, promiseOf, sendPromise, cachePromise, sendAccepted}
 use Rattle.broken.specs.Broken.{syncIn}
 use Rattle.refusals.proofs.Taken.{Depot, Fit}
-use Rattle.step_laws.proofs.Moves.{either, Brought, Holds, Tells, Closed}
+use Rattle.decide_laws.proofs.Grown.{either}
+use Rattle.step_laws.proofs.Moves.{Brought, Holds, Tells, Closed}
 use Rattle.step_laws.proofs.Plan.{pushed, Items, items-pushed, items-none}
 
 -- entries that join the buffered proposals are those given

@@ -41,9 +41,10 @@ use Rattle.sends.specs.Sends.{logLength, syncFits, sendPrepareReq, peersOf}
 use Rattle.log_plan.specs.Log.{syncEnd, syncUnfit, syncLog, appendGiven, hasLeader, pushForward, forwardBuffered}
 use Rattle.follower.specs.Follower.{recovering, leftLeader, reconnectedOf, logFrom, promisedSync, logSource, buildFits, promiseOf, sendPromise, cachePromise, tellPromise, promiseTo, prepareTaken, handlePrepare, byBallot, ifValidBallot, sendAccepted, givenSync, acceptsyncPut, following, acceptsyncTaken, acceptsyncIn, handleAcceptsync, counterAtTop, byStatus, ifExpected, latestAccepted, replyBy, replyAccepted, updateDecided, acceptdecideTaken, acceptdecideFit, acceptdecideIn, handleAcceptdecide, decideTaken, decideExpected, handleDecide, resendCached, resendIn, resendMessagesFollower}
 use Rattle.refusals.proofs.Taken.{Real, Fit, Reports}
-use Rattle.step_laws.proofs.Moves.{either, Unwritten, Brought, Tells, Closed, Found}
+use Rattle.decide_laws.proofs.Grown.{either}
+use Rattle.step_laws.proofs.Moves.{Unwritten, Brought, Tells, Closed, Found}
 use Rattle.step_laws.proofs.Sends.{along-marked}
-use Rattle.step_laws.proofs.Leader.{put-fits}
+use Rattle.decide_laws.proofs.Log.{put-fits}
 
 -- the sync that a Promise tells is a part of the log
 tells : (prep : Prepare) (s : SequencePaxos) → prep .«decided_idx» ≤ maxLog → prep .«accepted_idx» ≤ maxLog → Tells (logLength s) (promisedSync prep s)

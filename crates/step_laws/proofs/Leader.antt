@@ -35,35 +35,14 @@ use Rattle.paxos_box.specs.declared.Source.the-variants.{Given}
 use Rattle.paxos_box.specs.Box.{unfit, withState, withLeader, setDecided, isLeader, standingOf}
 use Rattle.sends.specs.declared.Each.the-variants as each
 use Rattle.sends.specs.Sends.{onDepot, logLength, setLatestOf, peersOf}
-use Rattle.log_plan.specs.Log.{syncEnd, endsPast, putUnfit, syncUnfit, syncLog, appendGiven, appendBuffered, bufferGiven, hasLeader, pushForward, forwardProposals}
-use Rattle.log_plan.proofs.Ends.{ends-within, fit-within}
+use Rattle.log_plan.specs.Log.{syncEnd, syncUnfit, syncLog, appendGiven, appendBuffered, bufferGiven, hasLeader, pushForward, forwardProposals}
+use Rattle.log_plan.proofs.Ends.{ends-within}
 use Rattle.leader.specs.Leader.{forFollowers, keepPromise, reached, newLeader, ownPromise, becomeLeader, becomeFollower, handleLeader, prepareAgain, handlePrepareReq, setAcceptedOf, ownAccepted, acceptEntriesLeader, proposalIn, handleForwardedProposal, putOp, changeOf, leaderSyncs, syncHeld, syncBy, syncWithBest, syncTaken, handleMajorityPromises, keepSync, handlePromisePrepare, handlePromiseAccept, bringsPast, promiseIn, handlePromise, newlyChosen, decideIfChosen, acceptedTaken, acceptedIn, handleAccepted, lostPromise, handleNotAccepted, resendIn, resendMessagesLeader}
 use Rattle.refusals.proofs.Taken.{Depot, Known, Real, Fit}
-use Rattle.step_laws.proofs.Moves.{either, PutFits, Brought, Holds, Closed, Found}
+use Rattle.decide_laws.proofs.Grown.{either}
+use Rattle.decide_laws.proofs.Log.{PutFits, put-fits}
+use Rattle.step_laws.proofs.Moves.{Brought, Holds, Closed, Found}
 use Rattle.step_laws.proofs.Sends.{mild-forget, mild-accepted, mild-promise, along-sync-to, along-marked}
-
--- a test of a chain of tests that does not hold leaves it to the rest
-rest : (t r : Bool) → cond t true r ≡ false → (t ≡ false) × (r ≡ false)
-rest true r h = absurd (let w : _≡_ {A = ℕ} 0 1 = cc in omega arith)
-rest false r h = (refl, h)
-
--- what a sync that may be put on says
-pub put-fits : (x : LogSync) (change brings : ℕ) (s : SequencePaxos) → syncUnfit x change brings s ≡ false → PutFits x change brings (logLength s) (s .«internal_storage» .«decided_idx»)
-unfolding syncUnfit putUnfit
-put-fits x change brings s e =
-    let len = s .«internal_storage» .«accepted_idx» in
-    let decided = s .«internal_storage» .«decided_idx» in
-    let a = rest (endsPast x) _ e in
-    let b = rest (ltb len (x .«sync_idx»)) _ (a .1) in
-    let c = rest (ltb change decided) _ (b .1) in
-    let d = rest (ltb (syncEnd x) decided) _ (c .1) in
-    record {
-      starts = ltb-false len (x .«sync_idx») (b .0);
-      changes = ltb-false change decided (c .0);
-      own = ltb-false (syncEnd x) decided (d .0);
-      brought = ltb-false (syncEnd x) brings (d .1);
-      within = fit-within x change brings s e;
-    }
 
 -- what is known of a Leader, by where the box stands
 abbrev pub Leads : Standing → Type 0 → Type 0

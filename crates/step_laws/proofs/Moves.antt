@@ -1,8 +1,8 @@
 -- The small moves of which every step is made, each with what is known where it is made. A fact that is closed under all of them holds of the step's outcome.
 use Prim.Native.Nat.{ℕ, _+_, _≤_, _<_}
-use mathlib.Core.Path.{_≡_, refl}
+use mathlib.Core.Path.{_≡_}
 use mathlib.Core.Logic.{_⊎_}
-use mathlib.Core.Bool.{Bool, true, false, cond}
+use mathlib.Core.Bool.{true, false}
 use mathlib.Core.List.{List}
 use lib.ListN.{length}
 use Rattle.base.specs.Limits.{maxLog}
@@ -38,12 +38,8 @@ use Rattle.log_plan.specs.Log.{syncEnd, syncLog, appendGiven, appendBuffered, b
 use Rattle.leader.specs.Leader.{keepPromise, ownPromise, syncTaken, keepSync}
 use Rattle.follower.specs.Follower.{logSource, cachedSource, promiseOf, sendPromise, cachePromise, notAccepted, sendAccepted, raiseAccepted}
 use Rattle.sight.specs.Sight.{brought}
+use Rattle.decide_laws.proofs.Log.{PutFits}
 use Rattle.refusals.proofs.Taken.{Depot, Known, Real, Fit}
-
--- a choice by a test has what both sides have
-pub either : {A : Type 0} (P : A → Type 0) (b : Bool) (x y : A) → (b ≡ true → P x) → (b ≡ false → P y) → P (cond b x y)
-either P true x y f g = f refl
-either P false x y f g = g refl
 
 -- nothing is written yet
 pub record Unwritten (w : Writes) : Type 0 where
@@ -57,14 +53,6 @@ pub record Unwritten (w : Writes) : Type 0 where
 pub record Mild (f : place.Depot → place.Depot) : Type 0 where
   pub latest : (d : place.Depot) → (f d .latest ≡ d .latest) ⊎ (f d .latest ≡ latest.Nothing)
   pub promise : (d : place.Depot) → (f d .promise ≡ d .promise) ⊎ (isPromised (f d .promise) ≡ false)
-
--- a sync that may be put on a log of that length and decided index
-pub record PutFits (x : LogSync) (change brings len decided : ℕ) : Type 0 where
-  pub starts : x .«sync_idx» ≤ len
-  pub changes : decided ≤ change
-  pub own : decided ≤ syncEnd x
-  pub brought : brings ≤ syncEnd x
-  pub within : syncEnd x ≤ maxLog
 
 -- the sync that the event brings, with the entries given
 pub record Brought (e : Event) (entries : List ℕ) (x : LogSync) : Type 0 where

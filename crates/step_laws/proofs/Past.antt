@@ -30,7 +30,8 @@ use Rattle.follower.specs.Follower.{cachePromise, sendAccepted}
 use Rattle.sequence_paxos.specs.Decide.{taken, drained, restarted}
 use Rattle.refusals.proofs.Taken.{Depot, Taken}
 use Rattle.step.specs.Step.{World, boxOf}
-use Rattle.step_laws.proofs.Moves.{either, Closed}
+use Rattle.decide_laws.proofs.Grown.{either}
+use Rattle.step_laws.proofs.Moves.{Closed}
 use Rattle.step_laws.proofs.Events.{Queues, along-event}
 use Rattle.step_laws.proofs.Fits.{found, as-found}
 

@@ -31,7 +31,8 @@ use Rattle.log_plan.specs.Log.{syncLog, appendGiven, appendBuffered, bufferGive
 use Rattle.leader.specs.Leader.{keepPromise, ownPromise, keepSync}
 use Rattle.follower.specs.Follower.{cachePromise, sendAccepted}
 use Rattle.refusals.proofs.Taken.{Depot, LatestBelow}
-use Rattle.step_laws.proofs.Moves.{either, Mild, Closed}
+use Rattle.decide_laws.proofs.Grown.{either}
+use Rattle.step_laws.proofs.Moves.{Mild, Closed}
 use Rattle.step_laws.proofs.Plan.{pushed, set-place, first-place}
 
 abbrev pub MetaBelow : ℕ → AcceptedMeta → Type 0

@@ -26,7 +26,7 @@ use Rattle.outgoing.specs.Packing.{Packed}
 use Rattle.outgoing.proofs.Steps.{length-queue, laid-sizes, all-longer, fits-below}
 use Rattle.outgoing.proofs.Kept.{queue-after, entries-after, packed-after, packed-inside, packed-apart}
 use Rattle.refusals.proofs.Taken.{Apart, HeadFit, Whole}
-use Rattle.step_laws.proofs.Moves.{either}
+use Rattle.decide_laws.proofs.Grown.{either}
 use Rattle.step_laws.proofs.Plan.{Each, each-of, each-at}
 use Rattle.step_laws.proofs.Messages.{Does, FitMsg, each-all, each-shown, each-head, head-shown, shown-head}
 

@@ -24,7 +24,8 @@ use Rattle.sends.specs.declared.Each.{Each}
 use Rattle.sends.specs.declared.Each.the-variants as each
 use Rattle.sends.specs.Sends.{theDepot, onDepot, logLength, syncFits, nextSessionOf, nextSeqNumOf, setLatestOf, newSession, syncStartOf, sendAccSync, byPromise, accSyncTo, latestAccdec, joinTo, pushAcceptDecide, newAcceptDecide, acceptDecideBy, acceptDecideTo, decideBy, decideTo, sendOne, turnOf, forMarked}
 use Rattle.refusals.proofs.Taken.{Depot}
-use Rattle.step_laws.proofs.Moves.{either, Mild, Closed}
+use Rattle.decide_laws.proofs.Grown.{either}
+use Rattle.step_laws.proofs.Moves.{Mild, Closed}
 
 -- the changes of a place that are mild
 pub mild-session : Mild nextSession

@@ -21,7 +21,7 @@ use Rattle.refusals.proofs.Taken.{Lengths, Taken}
 use Rattle.refusals.proofs.Sound.{whole}
 use Rattle.refusals.proofs.Fresh as never-ran
 use Rattle.step.specs.Step.{World, world, Outcome, boxOf, logOf, isRestart, newlyDecided, bookAfter, performOf, stepOf}
-use Rattle.step_laws.proofs.Moves.{either}
+use Rattle.decide_laws.proofs.Grown.{either}
 use Rattle.step_laws.proofs.Written.{Planned}
 use Rattle.step_laws.proofs.Fits.{Passes, passes, found, planned-taken}
 use Rattle.step_laws.proofs.Outcome.{outcomeOf, Ways, refused, took, ways, gives-le}

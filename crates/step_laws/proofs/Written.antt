@@ -33,7 +33,8 @@ use Rattle.storage.specs.Storage.{endAfter, bestCount, bufferCount}
 use Rattle.outgoing.specs.Perform.{Sums}
 use Rattle.outgoing.proofs.Kept.{sums-planned}
 use Rattle.refusals.proofs.Taken.{Fit}
-use Rattle.step_laws.proofs.Moves.{either, Unwritten, Brought, Holds, Closed}
+use Rattle.decide_laws.proofs.Grown.{either}
+use Rattle.step_laws.proofs.Moves.{Unwritten, Brought, Holds, Closed}
 use Rattle.step_laws.proofs.Plan.{planned-is, pushed}
 
 -- what goes on the log: the entries given, all of them and fit, or the held sync as found; nothing starts past the log or changes a decided place
@@ -62,7 +63,7 @@ abbrev pub Planned : Configuration → Event → List ℕ → SequencePaxos → 
 Planned c e entries found k s =
     Plans c e entries found k (s .config) (s .outgoing) (s .plan .sends) (s .plan .writes) (s .«internal_storage» .«decided_idx») (logLength s) (s .«buffered_proposals»)
 
-kept-le : (waits len : ℕ) → keptOf waits len ≤ waits
+pub kept-le : (waits len : ℕ) → keptOf waits len ≤ waits
 unfolding keptOf
 kept-le waits len = either (λ (n : ℕ). n ≤ waits) (ltb maxLog len) 0 (min waits (maxLog - len)) (λ e. omega arith) (λ e. omega arith)
 

@@ -1,12 +1,12 @@
 -- Each small move of a step keeps a plan that counts no more than there is.
-use Prim.Native.Nat.{ℕ, _+_, _-_, _≤_, min}
+use Prim.Native.Nat.{ℕ, _+_, _-_, _≤_}
 use mathlib.Core.Path.{_≡_, refl, sym, ap, _∙_}
 use mathlib.Core.Bool.{Bool, true, false, cond}
 use mathlib.Core.List.{List}
 use native.Mathlib.Omega.{arith}
 use lib.Dec.{ltb, leb}
 use lib.ListN.{length}
-use Rattle.base.specs.Limits.{maxLog, largest}
+use Rattle.base.specs.Limits.{largest}
 use Rattle.ballot.specs.declared.Ballot.{Ballot}
 use Rattle.quorum.specs.declared.Configuration.{Configuration}
 use Rattle.leader_state.specs.declared.HeldSync.{HeldSync}
@@ -40,7 +40,9 @@ use Rattle.follower.specs.Follower.{countOf, logSource, cachedSource, keptSync,
 use Rattle.sequence_paxos.specs.Decide.{drained, restarted}
 use Rattle.broken.specs.Broken.{syncIn}
 use Rattle.storage.specs.Storage.{endAfter}
-use Rattle.step_laws.proofs.Moves.{either, Unwritten, Holds, Tells, Closed}
+use Rattle.decide_laws.proofs.Grown.{either}
+use Rattle.step_laws.proofs.Written.{kept-le}
+use Rattle.step_laws.proofs.Moves.{Unwritten, Holds, Tells, Closed}
 use Rattle.step_laws.proofs.Plan.{items-none}
 use Rattle.views.proofs.Fine.{Sizes, OpWithin, BufferWithin, cachedSize, sourceSize, Within, Fine, FineBox, fine-more, fine-cached, fine-best, fine-push}
 
@@ -48,10 +50,6 @@ use Rattle.views.proofs.Fine.{Sizes, OpWithin, BufferWithin, cachedSize
 suffix-within : (len from : ℕ) → suffixLength len from ≤ len - from
 unfolding suffixLength
 suffix-within len from = either (λ (n : ℕ). n ≤ len - from) (ltb len from) 0 (len - from) (λ e. omega arith) (λ e. omega arith)
-
-kept-within : (waiting len : ℕ) → keptOf waiting len ≤ waiting
-unfolding keptOf
-kept-within waiting len = either (λ (n : ℕ). n ≤ waiting) (ltb maxLog len) 0 (min waiting (maxLog - len)) (λ e. omega arith) (λ e. omega arith)
 
 longer-cached : (op : CachedOp) (z : Sizes) (a b : ℕ) → a ≤ b → cachedSize op a z ≤ cachedSize op b z
 longer-cached cached.Keep z a b h = omega arith
@@ -133,7 +131,7 @@ module _ (c : Configuration) (z : Sizes) where
         things = f .things;
         sums = f .sums;
         op = f .op;
-        joins = omega (arith, n, kept-within (s .«buffered_proposals») len);
+        joins = omega (arith, n, kept-le (s .«buffered_proposals») len);
         log = omega (arith, e, f .log);
         buffer = none-left (s .plan .writes .buffer) z b;
         cached = omega (arith, f .cached, longer-cached (s .plan .writes .cached) z len (len + more) (omega arith));
