@@ -3,3 +3,4 @@ pub mod Rows
 pub mod Answers
 pub mod Lent
 pub mod Step
+pub mod Link

@@ -44,12 +44,11 @@ use Rattle.agreement.proofs.Order.{both}
 use Rattle.travels.specs.Face.{Face, item, taker, feeder, feedsIn}
 use Rattle.travels.specs.Facts.{Led, InRole}
 use Rattle.travels.specs.Near.{Scene, Well, Next}
-use Rattle.travels.proofs.Moves.{stay}
 use Rattle.travels.proofs.Follow.{round-of, tookTo, t-synced, t-more}
 use Rattle.travels.proofs.Books.{leader-is}
 use Rattle.faces.specs.Mid.{faceOf, midFace, Clean, Ready}
 use Rattle.faces.proofs.Push.{found-ready, face-found, ready-push}
-use Rattle.faces.proofs.Sends.{refuses, reconnects, forwards}
+use Rattle.faces.proofs.Sends.{refuses, reconnects, forwards, found-well, ignored}
 use Rattle.faces.proofs.Reply.{by-ballot, reached-own, replies-new, replies}
 
 -- the next number of a session
@@ -72,10 +71,10 @@ module _ (conf : Configuration) (q₀ : ℕ) (sight : Sight) (es : List ℕ) (v 
   s = loadOf conf q₀ sight (v .node)
 
   found : Well z P b c g (midFace es v s)
-  found = subst (Well z P b c g) (sym (face-found conf q₀ sight es v cnt)) w
+  found = found-well conf q₀ sight es v cnt w
 
   rest : Next z P b c g (midFace es v s)
-  rest = stay found
+  rest = ignored conf q₀ sight es v cnt w
 
   ready : Ready 0 es v s
   ready = found-ready conf q₀ sight es v cnt

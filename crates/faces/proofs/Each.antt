@@ -91,7 +91,7 @@ counter-clean to s = go (leb largest (theDepot to s .«seq_num» .counter))
     go true k = absurd (both refl (k .low))
     go false k = refl
 
-pub clean-next : (to : ℕ) (s : SequencePaxos) → Clean (nextSeqNumOf to s) → Clean s
+clean-next : (to : ℕ) (s : SequencePaxos) → Clean (nextSeqNumOf to s) → Clean s
 clean-next to s k = let a : Clean (onDepot to nextCounter s) = subst Clean (counter-clean to s k) k in record { fit = a .fit; low = a .low }
 
 -- what came before a send with a number

@@ -17,10 +17,10 @@ use Rattle.leader_state.specs.declared.Depot.{Depot}
 use Rattle.leader_state.specs.declared.LeaderState.{LeaderState}
 use Rattle.leader_state.specs.declared.MaxPromise.{MaxPromise}
 use Rattle.leader_state.specs.declared.PromiseMetaData.{PromiseMetaData}
-use Rattle.leader_state.specs.declared.PromiseState.the-variants.{NotPromised, Promised}
+use Rattle.leader_state.specs.declared.PromiseState.the-variants.{Promised}
 use Rattle.leader_state.specs.declared.HeldSync.the-variants as held
 use Rattle.leader_state.specs.State.{fresh, noBest, withDepot, withOf, setPromiseState}
-use Rattle.leader_state.specs.Promises.{isPromised, beats, promiseKept}
+use Rattle.leader_state.specs.Promises.{beats, promiseKept}
 use Rattle.paxos_box.specs.declared.SequencePaxos.{SequencePaxos}
 use Rattle.paxos_box.specs.declared.Sight.{Sight}
 use Rattle.paxos_box.specs.declared.Role.the-variants.{Leader}
@@ -33,31 +33,26 @@ use Rattle.views.specs.View.{View, heldEntries, Counted}
 use Rattle.decide_laws.proofs.Grown.{either}
 use Rattle.agreement.specs.Order.{Below}
 use Rattle.agreement.specs.Core.{Sizes, Ghost}
-use Rattle.agreement.proofs.Order.{both, within-nothing}
+use Rattle.agreement.proofs.Order.{within-nothing}
 use Rattle.agreement.proofs.Update.{depot-eq}
 use Rattle.travels.specs.Face.{place, takesIn}
 use Rattle.travels.specs.Near.{Scene, Well, Next}
 use Rattle.travels.proofs.Moves.{stay}
 use Rattle.travels.proofs.Reply.{t-stands-down}
 use Rattle.travels.proofs.Elect.{Elects, electedTo, t-elected}
+use Rattle.travels.proofs.Note.{no-promise, promised-is}
 use Rattle.travels.proofs.Open.{Puts}
 use Rattle.faces.specs.Mid.{faceOf, midFace, Ready}
 use Rattle.faces.proofs.Push.{found-ready, face-found}
-use Rattle.faces.proofs.Sends.{each-prepare}
+use Rattle.faces.proofs.Sends.{each-prepare, found-well}
 use Rattle.faces.proofs.Places.{puts-of, fresh-place, beats-not}
-
-promised-not : {A : Type 0} {m : PromiseMetaData} → NotPromised ≡ Promised m → A
-promised-not e = absurd (both (ap isPromised e) refl)
-
-promised-same : {m m′ : PromiseMetaData} → Promised m ≡ Promised m′ → m′ ≡ m
-promised-same e = cc
 
 module _ (quo : Quorum) (q₀ : ℕ) (sight : Sight) (es : List ℕ) (v : View) (cnt : Counted v) {z : Sizes} {P : ℕ → Type 0} {b : ℕ} {c : Scene} {g : Ghost ℕ} (few : z .depots ≤ maxDepots) (bl : b < z .depots) (w : Well z P b c g (faceOf v)) where
   abbrev s : SequencePaxos
   s = loadOf (record { depots = z .depots; pid = b + 1; quorum = quo }) q₀ sight (v .node)
 
   found : Well z P b c g (midFace es v s)
-  found = subst (Well z P b c g) (sym (face-found (record { depots = z .depots; pid = b + 1; quorum = quo }) q₀ sight es v cnt)) w
+  found = found-well (record { depots = z .depots; pid = b + 1; quorum = quo }) q₀ sight es v cnt w
 
   module _ (n : Ballot) (lt : Below (v .node .«internal_storage» .promise) n) (pid : n .pid ≡ b + 1) where
     abbrev own : PromiseMetaData
@@ -104,8 +99,8 @@ module _ (quo : Quorum) (q₀ : ℕ) (sight : Sight) (es : List ℕ) (v : View) 
         go (inr q) = ap f (p .else t q ∙ at₀ t h)
 
     alone : (t : ℕ) (m : PromiseMetaData) → t < z .depots → (t ≡ b) ⊎ (t ≢ b) → place t l .promise ≡ Promised m → (t ≡ b) × (m ≡ own)
-    alone t m h (inl q) e = (q, promised-same (sym (ap (λ (d : Depot). d .promise) (subst (λ k. place k l ≡ setPromiseState (Promised own) (place b l₀)) (sym q) (p .here))) ∙ e))
-    alone t m h (inr q) e = promised-not (sym (ap (λ (d : Depot). d .promise) (p .else t q ∙ at₀ t h)) ∙ e)
+    alone t m h (inl q) e = (q, sym (promised-is refl (sym (ap (λ (d : Depot). d .promise) (subst (λ k. place k l ≡ setPromiseState (Promised own) (place b l₀)) (sym q) (p .here))) ∙ e)))
+    alone t m h (inr q) e = no-promise refl (sym (ap (λ (d : Depot). d .promise) (p .else t q ∙ at₀ t h)) ∙ e)
 
     elects : Elects z b n (faceOf v) l
     unfolding withOf

@@ -34,6 +34,7 @@ use Rattle.agreement.proofs.Update.{ballot-eq, depot-eq}
 use Rattle.agreement.proofs.Same.{same-append}
 use Rattle.travels.specs.Face.{place, feedsBy}
 use Rattle.travels.specs.Near.{Scene, Near, Well}
+use Rattle.travels.proofs.Tests.{and-false}
 use Rattle.travels.proofs.Feed.{rewhole}
 use Rattle.faces.specs.Mid.{midLog, midFace, Clean, Ready}
 use Rattle.faces.proofs.Places.{marked-is, unmarked-is}
@@ -69,11 +70,7 @@ module _ (g : Ghost ℕ) (n : Ballot) (log : List ℕ) (l : LeaderState) where
   whole-told k u h e = rw (same-self n, lt-ltb u k h, e)
 
   whole-not : (k u : ℕ) (m : Ballot) → isPromised (place u l .promise) ≡ false → wholeAt g n log l k m u ≡ cond (same m n) log (g .G m)
-  whole-not k u m e = rw e (ap (λ x. cond (same m n) (cond x (g .G n) log) (g .G m)) (off (ltb u k)))
-    where
-      off : (t : Bool) → (t && false) ≡ false
-      off true = refl
-      off false = refl
+  whole-not k u m e = rw e (ap (λ x. cond (same m n) (cond x (g .G n) log) (g .G m)) (and-false (ltb u k)))
 
 -- what a send of a kind carries
 abbrev pub Carries : List ℕ → View → Each → List ℕ → Writes → Type 0

@@ -51,7 +51,7 @@ use Rattle.faces.proofs.Reply.{place-set}
 use Rattle.faces.proofs.Places.{pid-place, puts-of, puts-then, puts-is}
 use Rattle.faces.proofs.Each.{Stays, stays-then, stays-on, stays-push, counter-clean}
 
-pub feeds-now : (n : Ballot) (t : ℕ) (s : State) (l : LeaderState) → s ≡ record { role = Leader; phase = phase.Accept } → l .«n_leader» ≡ n → isPromised (place t l .promise) ≡ true → feedsBy n t s l ≡ true
+feeds-now : (n : Ballot) (t : ℕ) (s : State) (l : LeaderState) → s ≡ record { role = Leader; phase = phase.Accept } → l .«n_leader» ≡ n → isPromised (place t l .promise) ≡ true → feedsBy n t s l ≡ true
 unfolding feedsBy
 feeds-now n t s l e p q = rw (leads-now n s l (ap (λ (k : State). isLeader (k .role)) e) p, ap (λ (k : State). isAcceptPhase (k .phase)) e, q)
 

@@ -35,7 +35,8 @@ use Rattle.travels.specs.Facts.{Leading}
 use Rattle.travels.specs.Near.{Scene, Near, Well}
 use Rattle.travels.proofs.Books.{leads-other, refed}
 use Rattle.travels.proofs.Elect.{leads-in}
-use Rattle.travels.proofs.Note.{both-true, feeds-less-to}
+use Rattle.travels.proofs.Tests.{both-true}
+use Rattle.travels.proofs.Note.{feeds-less-to}
 use Rattle.travels.proofs.Start.{promised-meta, metaOf}
 use Rattle.travels.proofs.Open.{Puts, puts-part, t-opens, opened}
 use Rattle.faces.specs.Mid.{midFace, Clean, Ready}

@@ -164,7 +164,7 @@ highest-is k l Q z f = most-some Q k (l .depots) z (λ t h. one t h (place t l .
     one t h PromisedHigher e = z
 
 -- who is marked as a promised follower
-pub mark-is : (k t : ℕ) (l : LeaderState) → t < k → k ≤ maxDepots → getD (promisedFollowers k l) t false ≡ cond (eqb (t + 1) (l .«n_leader» .pid)) false (isPromised (place t l .promise))
+mark-is : (k t : ℕ) (l : LeaderState) → t < k → k ≤ maxDepots → getD (promisedFollowers k l) t false ≡ cond (eqb (t + 1) (l .«n_leader» .pid)) false (isPromised (place t l .promise))
 unfolding promisedFollowers isFollower
 mark-is k t l h d =
     getD-tabulate maxDepots (λ i. cond (ltb i k) (isFollower (i + 1) l) false) t false (omega arith) ∙ rw (lt-ltb t k h, pid-place t l)

@@ -33,11 +33,10 @@ use Rattle.agreement.specs.Report.{from, Asks, Answer}
 use Rattle.agreement.proofs.Order.{both, upto-of, upto-eq, below-apart}
 use Rattle.travels.specs.Face.{Face}
 use Rattle.travels.specs.Near.{Scene, Well, Next}
-use Rattle.travels.proofs.Moves.{stay}
 use Rattle.travels.proofs.Follow.{promisedTo, t-promised}
 use Rattle.faces.specs.Mid.{faceOf, midFace, Clean, Ready}
 use Rattle.faces.proofs.Push.{clean-push, found-ready, face-found}
-use Rattle.faces.proofs.Sends.{next-plain}
+use Rattle.faces.proofs.Sends.{next-plain, ignored}
 
 -- a log from a place within it on
 suffix-is : (len i : ℕ) → i ≤ len → suffixLength len i ≡ len - i
@@ -152,4 +151,4 @@ module _ (conf : Configuration) (q : ℕ) (sight : Sight) (es : List ℕ) (v : V
       p = v .node .«internal_storage» .promise
 
       rest : Next z P b c g (midFace es v s)
-      rest = subst (Next z P b c g) (sym (face-found conf q sight es v cnt)) (stay w)
+      rest = ignored conf q sight es v cnt w

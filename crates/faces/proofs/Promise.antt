@@ -67,6 +67,7 @@ use Rattle.faces.proofs.Places.{pid-place, puts-of, beats-so, beats-not
 use Rattle.faces.proofs.Each.{session-box, sync-is, session-puts, face-sync}
 use Rattle.faces.proofs.Opens.{feeds-leads, followersOf, clean-all, each-opened}
 use Rattle.faces.proofs.Proposal.{state-is, begun-puts}
+use Rattle.faces.proofs.Sends.{found-well, ignored}
 
 -- ---- what is put on the log, where nothing is refused
 
@@ -122,13 +123,13 @@ module _ (quo : Quorum) (q₀ : ℕ) (sight : Sight) (es : List ℕ) (v : View) 
   l = v .node .«leader_state»
 
   found : Well z P b c g (midFace es v s)
-  found = subst (Well z P b c g) (sym (face-found conf q₀ sight es v cnt)) w
+  found = found-well conf q₀ sight es v cnt w
 
   ready : Ready 0 es v s
   ready = found-ready conf q₀ sight es v cnt
 
   rest : Next z P b c g (midFace es v s)
-  rest = stay found
+  rest = ignored conf q₀ sight es v cnt w
 
   -- the record with the promise in it, and a best
   abbrev withPromise : MaxPromise → LeaderState
@@ -335,7 +336,7 @@ unfolding handlePromise
 h-promise quo q₀ sight es v cnt {z} {P} {b} {c} {g} few bl rs w f fl n m pid sync full ans =
     either (λ (k : SequencePaxos). Clean k → Next z P b c g (midFace es v k)) (same n (v .node .«leader_state» .«n_leader»)) (promiseIn (standingOf (v .node .state .role) (v .node .state .phase)) m sync s₀) s₀
     (λ e. in-role quo q₀ sight es v cnt few bl rs w f fl m pid sync full (subst (λ k. Answer z g k f (m .«n_accepted») (m .«accepted_idx») (m .«decided_idx») (syncOf sync (heldEntries sync es))) (same-eq n (v .node .«leader_state» .«n_leader») e) ans) (v .node .state .role) (v .node .state .phase) refl refl)
-    (λ _ _. stay (subst (Well z P b c g) (sym (face-found (record { depots = z .depots; pid = b + 1; quorum = quo }) q₀ sight es v cnt)) w))
+    (λ _ _. ignored (record { depots = z .depots; pid = b + 1; quorum = quo }) q₀ sight es v cnt w)
   where
     s₀ : SequencePaxos
     s₀ = loadOf (record { depots = z .depots; pid = b + 1; quorum = quo }) q₀ sight (v .node)

@@ -60,7 +60,7 @@ use Rattle.travels.proofs.Open.{Puts, puts-part}
 use Rattle.travels.proofs.Feed.{grownTo, Grown, t-grown, t-decides, rewhole}
 use Rattle.faces.specs.Mid.{faceOf, midFace, Clean, Ready}
 use Rattle.faces.proofs.Push.{found-ready, face-found}
-use Rattle.faces.proofs.Sends.{next-plain, prepares, each-prepare}
+use Rattle.faces.proofs.Sends.{next-plain, prepares, each-prepare, found-well, ignored}
 use Rattle.faces.proofs.Places.{puts-of, puts-then, puts-is, less-puts, write-quorum}
 use Rattle.faces.proofs.Feeding.{wholeAt, whole-else, whole-none, each-told}
 
@@ -92,13 +92,13 @@ module _ (quo : Quorum) (q₀ : ℕ) (sight : Sight) (es : List ℕ) (v : View) 
   l = v .node .«leader_state»
 
   found : Well z P b c g (midFace es v s)
-  found = subst (Well z P b c g) (sym (face-found conf q₀ sight es v cnt)) w
+  found = found-well conf q₀ sight es v cnt w
 
   ready : Ready 0 es v s
   ready = found-ready conf q₀ sight es v cnt
 
   rest : Next z P b c g (midFace es v s)
-  rest = stay found
+  rest = ignored conf q₀ sight es v cnt w
 
   -- ---- a depot's promise is taken back
   module _ (f : ℕ) (fl : f < z .depots) where

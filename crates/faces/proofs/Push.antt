@@ -1,6 +1,6 @@
 -- One thing more in the plan: what it does to the face. And the face of the box as it is found.
 use Prim.Native.Nat.{ℕ, zero, suc, _+_, _<_}
-use mathlib.Core.Path.{_≡_, refl, sym, ap, _∙_, subst}
+use mathlib.Core.Path.{_≡_, refl, ap, _∙_}
 use mathlib.Core.Bool.{Bool, true, false, cond}
 use mathlib.Core.List.{List, [], _∷_, _++_, append-nil}
 use native.Mathlib.Omega.{arith}
@@ -8,7 +8,6 @@ use lib.Dec.{ltb}
 use lib.ListN.{length, take, length-set, length-append}
 use lib.Seq.{take-all}
 use borrow.Author.Tests.{lt-ltb}
-use Rattle.ballot.specs.declared.Ballot.{Ballot}
 use Rattle.quorum.specs.declared.Configuration.{Configuration}
 use Rattle.leader_state.specs.declared.HeldSync.{HeldSync}
 use Rattle.leader_state.specs.declared.HeldSync.the-variants as held
@@ -29,12 +28,7 @@ use Rattle.broken.specs.Broken.{cachedSync, bestSync}
 use Rattle.outgoing.specs.Queue.{Msg}
 use Rattle.outgoing.specs.Perform.{Sources, sourceOf, entriesOf, onPlace, doneTo, performOne, performAll, itemsOf}
 use Rattle.views.specs.View.{View, heldEntries, Counted}
-use Rattle.agreement.specs.Core.{Sizes, Ghost}
-use Rattle.agreement.specs.Stream.{plain}
-use Rattle.travels.specs.Face.{Face, item, withQueue, push}
-use Rattle.travels.specs.Facts.{Ok}
-use Rattle.travels.specs.Near.{Scene, Near}
-use Rattle.travels.proofs.Queues.{pushed}
+use Rattle.travels.specs.Face.{Face, withQueue, push}
 use Rattle.faces.specs.Mid.{faceOf, midSources, midFace, Clean, Ready}
 
 -- the plan with one thing more

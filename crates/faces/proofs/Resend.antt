@@ -37,27 +37,26 @@ use Rattle.agreement.specs.Report.{Answer}
 use Rattle.travels.specs.Face.{Face, place, syncOf, syncIn}
 use Rattle.travels.specs.Facts.{CachedOk}
 use Rattle.travels.specs.Near.{Scene, Well, Next}
-use Rattle.travels.proofs.Moves.{stay}
 use Rattle.travels.proofs.Reply.{t-recovers, restartedTo}
 use Rattle.travels.proofs.Note.{Less}
 use Rattle.travels.proofs.Cluster.{emptied}
 use Rattle.travels.specs.Face as face
 use Rattle.faces.specs.Mid.{faceOf, midSources, midFace, Ready}
 use Rattle.faces.proofs.Push.{found-ready, face-found}
-use Rattle.faces.proofs.Sends.{next-plain, each-request}
+use Rattle.faces.proofs.Sends.{next-plain, each-request, found-well, ignored}
 
 module _ (conf : Configuration) (q₀ : ℕ) (sight : Sight) (es : List ℕ) (v : View) (cnt : Counted v) {z : Sizes} {P : ℕ → Type 0} {b : ℕ} {c : Scene} {g : Ghost ℕ} (few : conf .depots ≤ maxDepots) (w : Well z P b c g (faceOf v)) where
   abbrev s : SequencePaxos
   s = loadOf conf q₀ sight (v .node)
 
   found : Well z P b c g (midFace es v s)
-  found = subst (Well z P b c g) (sym (face-found conf q₀ sight es v cnt)) w
+  found = found-well conf q₀ sight es v cnt w
 
   ready : Ready 0 es v s
   ready = found-ready conf q₀ sight es v cnt
 
   rest : Next z P b c g (midFace es v s)
-  rest = stay found
+  rest = ignored conf q₀ sight es v cnt w
 
   -- the cached promise, once more
   told : (x : HeldSync) → syncIn (startOf x) (take (countOf x) (sourceOf (cachedSource x) (midSources es v (s .plan .writes)))) ≡ syncOf x (heldEntries x (v .cached))

@@ -19,7 +19,10 @@ use Rattle.sends.specs.declared.Each.the-variants as each
 use Rattle.sends.specs.Sends.{sendNew, sendPrepare, sendPrepareReq, turnOf, forMarked}
 use Rattle.log_plan.specs.Log.{pushForward}
 use Rattle.follower.specs.Follower.{recovering, leftLeader, reconnectedOf, notAccepted}
-use Rattle.views.specs.View.{View}
+use Rattle.quorum.specs.declared.Configuration.{Configuration}
+use Rattle.paxos_box.specs.declared.Sight.{Sight}
+use Rattle.record.specs.Record.{loadOf}
+use Rattle.views.specs.View.{View, Counted}
 use Rattle.decide_laws.proofs.Grown.{either}
 use Rattle.agreement.specs.Core.{Sizes, Ghost}
 use Rattle.agreement.specs.All.{All, nil}
@@ -32,8 +35,8 @@ use Rattle.travels.proofs.Queues.{pushed}
 use Rattle.travels.proofs.Moves.{stay}
 use Rattle.travels.proofs.Reply.{rebuffered, t-recovers}
 use Rattle.travels.proofs.Elect.{asks-now}
-use Rattle.faces.specs.Mid.{midFace, Ready}
-use Rattle.faces.proofs.Push.{newMsg, face-new, ready-push}
+use Rattle.faces.specs.Mid.{faceOf, midFace, Ready}
+use Rattle.faces.proofs.Push.{newMsg, face-new, ready-push, face-found}
 
 -- the one that recovers has planned no more
 left-ready : (es : List ℕ) (v : View) (pid : ℕ) (s : SequencePaxos) → Ready 0 es v s → Ready 0 es v (leftLeader pid s)
@@ -54,7 +57,7 @@ module _ (es : List ℕ) (v : View) {z : Sizes} {P : ℕ → Type 0} {b : ℕ} {
   next-plain to m src count s r h n ok p =
       subst (Next z P b c g) (sym (face-new es v to m src count s r h)) (record { ghost = n .ghost; moved = n .moved; well = pushed (newMsg es v to m src count s) ok p (n .well) })
 
-  pub requests : {k : ℕ} (to : ℕ) (s : SequencePaxos) → Ready k es v s → k < 8 → Next z P b c g (midFace es v s) → Next z P b c g (midFace es v (sendPrepareReq to s))
+  requests : {k : ℕ} (to : ℕ) (s : SequencePaxos) → Ready k es v s → k < 8 → Next z P b c g (midFace es v s) → Next z P b c g (midFace es v (sendPrepareReq to s))
   unfolding sendPrepareReq
   requests to s r h n = next-plain to (msg.PrepareReq (record { n = s .«internal_storage» .promise })) source.Nothing 0 s r h n (λ t e. tt) (λ j. refl)
 
@@ -119,3 +122,12 @@ module _ (es : List ℕ) (v : View) {z : Sizes} {P : ℕ → Type 0} {b : ℕ} {
     where
       empty : Next z P b c g (midFace es v (setBuffered 0 s))
       empty = record { ghost = n .ghost; moved = n .moved; well = rw e (rebuffered (n .well) nil) }
+
+-- ---- the box as found
+module _ (conf : Configuration) (n : ℕ) (sight : Sight) (es : List ℕ) (v : View) (k : Counted v) {z : Sizes} {P : ℕ → Type 0} {b : ℕ} {c : Scene} {g : Ghost ℕ} (w : Well z P b c g (faceOf v)) where
+  pub found-well : Well z P b c g (midFace es v (loadOf conf n sight (v .node)))
+  found-well = subst (Well z P b c g) (sym (face-found conf n sight es v k)) w
+
+  -- a message or an event that the rules ignore
+  pub ignored : Next z P b c g (midFace es v (loadOf conf n sight (v .node)))
+  ignored = stay found-well

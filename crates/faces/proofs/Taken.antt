@@ -47,8 +47,8 @@ use Rattle.travels.specs.Facts.{MsgOk, Standing}
 use Rattle.travels.specs.Near.{Scene, Well, Next}
 use Rattle.travels.proofs.Books.{leader-is}
 use Rattle.faces.specs.Mid.{faceOf, midFace, Clean}
-use Rattle.faces.proofs.Push.{found-ready, face-found}
-use Rattle.faces.proofs.Sends.{reconnects}
+use Rattle.faces.proofs.Push.{found-ready}
+use Rattle.faces.proofs.Sends.{reconnects, found-well}
 use Rattle.faces.proofs.Prepare.{h-prepare}
 use Rattle.faces.proofs.Accept.{h-acceptsync, h-acceptdecide, h-decide}
 use Rattle.faces.proofs.Places.{pid-place}
@@ -136,8 +136,7 @@ module _ (quo : Quorum) (e : Event) (es : List ℕ) (v : View) (cnt : Counted v)
   pub took-reconnect : (pid : ℕ) → Goal (taken (event.Reconnect pid) (length es) (boxView conf e es v))
   unfolding boxView
   took-reconnect pid =
-      reconnects es v pid (loadOf conf (length (entriesIn (v .queue))) (sightView conf e es v) (v .node)) (found-ready conf (length (entriesIn (v .queue))) (sightView conf e es v) es v cnt)
-      (subst (Well z P b c g) (sym (face-found conf (length (entriesIn (v .queue))) (sightView conf e es v) es v cnt)) w)
+      reconnects es v pid (loadOf conf (length (entriesIn (v .queue))) (sightView conf e es v) (v .node)) (found-ready conf (length (entriesIn (v .queue))) (sightView conf e es v) es v cnt) (found-well conf (length (entriesIn (v .queue))) (sightView conf e es v) es v cnt w)
 
   leads : isLeader (v .node .state .role) ≡ true → Goal (resendBy Leader (boxView conf e es v))
   unfolding boxView

@@ -4,7 +4,7 @@ use mathlib.Core.Path.{_≡_, ap, sym, _∙_}
 use mathlib.Core.List.{List}
 use Rattle.hire_book.specs.Book.{bookOf}
 use Rattle.runs.specs.Runs.{Setup, State, Start, Move, after}
-use Rattle.runs.specs.Claim.{decided, book, Claim, Demand}
+use Rattle.runs.specs.Claim.{decided, book, Demand}
 use Rattle.runs.proofs.Local.{rises, stays, kept, once, counted}
 use Rattle.safety.proofs.Safe.{agree, given, histories}
 

@@ -45,7 +45,7 @@ pub among-left : {e : ℕ} {l : List ℕ} (r : List ℕ) → Among e l → Among
 among-left r first = first
 among-left r (later p) = later (among-left r p)
 
-pub among-right : {e : ℕ} (l : List ℕ) {r : List ℕ} → Among e r → Among e (l ++ r)
+among-right : {e : ℕ} (l : List ℕ) {r : List ℕ} → Among e r → Among e (l ++ r)
 among-right [] p = p
 among-right (x ∷ l) p = later (among-right l p)
 

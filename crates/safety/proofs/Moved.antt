@@ -81,7 +81,7 @@ module _ (z : Setup) (s : Stands (configOf z 0)) where
       go true false p r = sub-refl (link a b)
       go false u p r = sub-refl (link a b)
 
-  pub good-lost : (i j : ℕ) (m : Msg) (q : List Msg) (σ : State) → σ .link i j ≡ m ∷ q → Good z s σ → Good z s (without i j q σ)
+  good-lost : (i j : ℕ) (m : Msg) (q : List Msg) (σ : State) → σ .link i j ≡ m ∷ q → Good z s σ → Good z s (without i j q σ)
   good-lost i j m q σ e o = record { ghost = o .ghost; total = loses (first-gone i j m q (σ .link) e) (o .total); counted = o .counted }
 
   -- ---- it arrives

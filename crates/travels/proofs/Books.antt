@@ -2,9 +2,10 @@
 use Prim.Native.Nat.{ℕ, _+_, _<_}
 use mathlib.Core.Path.{_≡_, refl, sym, ap, _∙_}
 use mathlib.Core.Logic.{_≢_}
-use mathlib.Core.Bool.{Bool, true, false, _&&_}
+use mathlib.Core.Bool.{Bool, true, false}
 use mathlib.Core.List.{List}
 use native.Mathlib.Omega.{arith}
+use Rattle.ballot.specs.Ballot.{same}
 use Rattle.ballot.specs.declared.Ballot.{Ballot}
 use Rattle.ballot.proofs.Laws.{same-eq, same-refl as same-self}
 use Rattle.sequence.specs.declared.SequenceNumber.{SequenceNumber}
@@ -14,12 +15,12 @@ use Rattle.paxos_box.specs.Box.{isLeader, isAcceptPhase}
 use Rattle.agreement.specs.Order.{leaderOf}
 use Rattle.agreement.specs.Core.{Sizes, Ghost}
 use Rattle.agreement.specs.Stream.{Item, Taker, Feeder, Flow}
-use Rattle.agreement.proofs.Order.{both}
 use Rattle.agreement.proofs.Same.{same-refl}
 use Rattle.agreement.proofs.Flow.{flow-grown, feeds-less}
 use Rattle.travels.specs.Face.{Face, place, leadsBy, feedsBy, withLeader, withBest}
 use Rattle.travels.specs.Facts.{NodeOk}
 use Rattle.travels.specs.Near.{Scene, Near}
+use Rattle.travels.proofs.Tests.{both-true, and-false}
 
 -- the depot that a ballot's pid names
 pub leader-is : {b : ℕ} (n : Ballot) → n .pid ≡ b + 1 → leaderOf n ≡ b
@@ -40,11 +41,9 @@ unfolding leadsBy
 leads-other m s l {n} p ne = go (leadsBy m s l) refl
   where
     only : leadsBy m s l ≡ true → m ≡ n
-    only e = sym (same-eq (l .«n_leader») m (second (isLeader (s .role)) e)) ∙ p
-      where
-        second : (t : Bool) {u : Bool} → (t && u) ≡ true → u ≡ true
-        second true e = e
-        second false e = absurd (both e refl)
+    only e =
+        let k : (isLeader (s .role) ≡ true) × (same (l .«n_leader») m ≡ true) = both-true e in
+        sym (same-eq (l .«n_leader») m (k .1)) ∙ p
 
     go : (t : Bool) → leadsBy m s l ≡ t → leadsBy m s l ≡ false
     go true e = absurd (ne (only e))
@@ -86,8 +85,4 @@ module _ {z : Sizes} {P : ℕ → Type 0} {b : ℕ} {c : Scene} {g : Ghost ℕ} 
 -- before it is in phase Accept a leader feeds nobody
 pub feeds-early : (n : Ballot) (t : ℕ) (s : State) (l : LeaderState) → isAcceptPhase (s .phase) ≡ false → feedsBy n t s l ≡ false
 unfolding feedsBy
-feeds-early n t s l e = rw e (off (leadsBy n s l))
-  where
-    off : (t : Bool) → (t && false) ≡ false
-    off true = refl
-    off false = refl
+feeds-early n t s l e = rw e (and-false (leadsBy n s l))

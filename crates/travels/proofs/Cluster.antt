@@ -47,7 +47,8 @@ use Rattle.travels.proofs.Moves.{flow-left, leads-none, feeds-none}
 use Rattle.travels.proofs.Follow.{round-of}
 use Rattle.travels.proofs.Books.{booked}
 use Rattle.travels.proofs.Elect.{no-latest}
-use Rattle.travels.proofs.Note.{Less, both-true, t-less}
+use Rattle.travels.proofs.Note.{Less, t-less}
+use Rattle.travels.proofs.Tests.{both-true}
 
 -- ---- before every run
 

@@ -41,6 +41,7 @@ use Rattle.travels.specs.Inv.{FlowOf}
 use Rattle.travels.specs.Near.{Scene, Well, Next}
 use Rattle.travels.proofs.Up.{cached-up}
 use Rattle.travels.proofs.Moves.{followed, down-idle}
+use Rattle.travels.proofs.Tests.{and-false}
 
 -- ---- it promises
 
@@ -97,8 +98,7 @@ takes-other n m x p ne = go (same (x .storage .promise) m) refl (isAcceptPhase (
   where
     go : (t : Bool) → same (x .storage .promise) m ≡ t → (a : Bool) → (a && t) ≡ false
     go true e a = absurd (ne (sym (same-eq (x .storage .promise) m e) ∙ p))
-    go false e true = refl
-    go false e false = refl
+    go false e a = and-false a
 
 -- in phase Accept the log is of the promise's ballot
 pub round-of : (z : Sizes) (g : Ghost ℕ) (b : ℕ) (st : InternalStorage) (log : List ℕ) (l : LeaderState) (best : List ℕ) (r : Role) (p : Phase) → InRole z g b st log l best r p → isAcceptPhase p ≡ true

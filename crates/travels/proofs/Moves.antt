@@ -8,14 +8,14 @@ use lib.ListN.{length}
 use Rattle.ballot.specs.declared.Ballot.{Ballot}
 use Rattle.leader_state.specs.declared.LeaderState.{LeaderState}
 use Rattle.paxos_box.specs.declared.State.{State}
-use Rattle.paxos_box.specs.Box.{isLeader, isAcceptPhase}
+use Rattle.paxos_box.specs.Box.{isLeader}
 use Rattle.agreement.specs.Order.{leaderOf}
 use Rattle.agreement.specs.Core.{Sizes, Ghost, Same}
 use Rattle.agreement.specs.Growth.{Moved}
 use Rattle.agreement.specs.Proposed.{Only}
 use Rattle.agreement.specs.Stream.{Item, Taker, Feeder, Flow}
 use Rattle.agreement.proofs.Order.{both}
-use Rattle.agreement.proofs.Growth.{ext-refl, ext-trans}
+use Rattle.agreement.proofs.Growth.{ext-refl}
 use Rattle.agreement.proofs.Flow.{flow-idle, flow-grown}
 use Rattle.travels.specs.Face.{Face, takesIn, leadsBy, feedsBy, feedsIn}
 use Rattle.travels.specs.Facts.{NodeOk}

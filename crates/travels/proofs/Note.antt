@@ -2,7 +2,7 @@
 use Prim.Native.Nat.{ℕ, _<_}
 use mathlib.Core.Path.{_≡_, refl, sym, ap, subst, _∙_}
 use mathlib.Core.Logic.{_⊎_, inl, inr, _≢_}
-use mathlib.Core.Bool.{Bool, true, false, not, _&&_}
+use mathlib.Core.Bool.{true, false, not, _&&_}
 use mathlib.Core.List.{List}
 use native.Mathlib.Omega.{arith}
 use lib.Dec.{eqb}
@@ -37,6 +37,7 @@ use Rattle.travels.specs.Facts.{Reached, Noted, Preparing, Leading, InRo
 use Rattle.travels.specs.Near.{Scene, Near, Well}
 use Rattle.travels.proofs.Books.{leads-same, feeds-early, booked}
 use Rattle.travels.proofs.Elect.{prepares-in, leads-in, no-latest}
+use Rattle.travels.proofs.Tests.{both-true}
 
 -- ---- less than before: the ballot, the best and the numbers stay; a promise or what is remembered may go
 
@@ -48,7 +49,7 @@ pub record Less (z : Sizes) (l l′ : LeaderState) : Type 0 where
   pub promise : (t : ℕ) → t < z .depots → (place t l′ .promise ≡ place t l .promise) ⊎ (isPromised (place t l′ .promise) ≡ false)
   pub latest : (t : ℕ) → t < z .depots → (place t l′ .latest ≡ place t l .latest) ⊎ (place t l′ .latest ≡ latest.Nothing)
 
-no-promise : {A : Type 0} {p : PromiseState} {m : PromiseMetaData} → isPromised p ≡ false → p ≡ Promised m → A
+pub no-promise : {A : Type 0} {p : PromiseState} {m : PromiseMetaData} → isPromised p ≡ false → p ≡ Promised m → A
 no-promise {p = p} e q = absurd (both (ap isPromised q) e)
 
 -- a promise of the one record is one of the other
@@ -59,10 +60,6 @@ less-promise (inr e) q = no-promise e q
 less-promised : {p p′ : PromiseState} → (p′ ≡ p) ⊎ (isPromised p′ ≡ false) → isPromised p′ ≡ true → isPromised p ≡ true
 less-promised (inl e) q = sym (ap isPromised e) ∙ q
 less-promised (inr e) q = absurd (both q e)
-
-pub both-true : {s t : Bool} → (s && t) ≡ true → (s ≡ true) × (t ≡ true)
-both-true {s = true} e = (refl, e)
-both-true {s = false} e = absurd (both e refl)
 
 pub feeds-less-to : (n : Ballot) (t : ℕ) (s : State) (l l′ : LeaderState) → l′ .«n_leader» ≡ l .«n_leader» → (isPromised (place t l′ .promise) ≡ true → isPromised (place t l .promise) ≡ true)
     → feedsBy n t s l′ ≡ true → feedsBy n t s l ≡ true
@@ -146,7 +143,7 @@ pub data Best (x : Face) (m : PromiseMetaData) (sync : Sync ℕ) (p : MaxPromise
   stays : Within (m .«n_accepted») (m .«accepted_idx») (x .leader .«max_promise» .meta .«n_accepted») (x .leader .«max_promise» .meta .«accepted_idx») → p ≡ x .leader .«max_promise» → best ≡ x .best → Best x m sync p best
   beaten : Beats (m .«n_accepted») (m .«accepted_idx») (x .leader .«max_promise» .meta .«n_accepted») (x .leader .«max_promise» .meta .«accepted_idx») → p .meta ≡ m → syncOf (p .sync) best ≡ sync → Best x m sync p best
 
-promised-is : {p : PromiseState} {m m′ : PromiseMetaData} → p ≡ Promised m → p ≡ Promised m′ → m ≡ m′
+pub promised-is : {p : PromiseState} {m m′ : PromiseMetaData} → p ≡ Promised m → p ≡ Promised m′ → m ≡ m′
 promised-is p q = cc
 
 module _ {z : Sizes} {P : ℕ → Type 0} {b : ℕ} {c : Scene} {g : Ghost ℕ} {x : Face} (v : Well z P b c g x) {f : ℕ} {m : PromiseMetaData} {l : LeaderState} (o : Keeps f m (x .leader) l) where

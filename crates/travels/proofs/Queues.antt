@@ -57,7 +57,7 @@ meta-push meta.Nothing q r o = tt
 meta-push (meta.At x) q r o = record { index = o .index; there = there-push toOf (o .there) r }
 
 -- a depot's facts with one message more in its queue
-pub node-push : {z : Sizes} {P : ℕ → Type 0} {g : Ghost ℕ} {b : ℕ} {x : Face} (m : Msg) → NodeOk z P g b x → NodeOk z P g b (push m x)
+node-push : {z : Sizes} {P : ℕ → Type 0} {g : Ghost ℕ} {b : ℕ} {x : Face} (m : Msg) → NodeOk z P g b x → NodeOk z P g b (push m x)
 node-push {x = x} m o =
     record {
       own = o .own;

@@ -29,10 +29,10 @@ use Rattle.travels.specs.Face.{Face}
 use Rattle.travels.specs.Facts.{Led, Reached, MsgOk, Ok, Own, Noted, Preparing, Leading, InRole, CachedOk, NodeOk}
 
 module _ {b : ℕ} {g h : Ghost ℕ} (e : Ext b g h) where
-  pub led-up : {z : Sizes} {n : Ballot} {d : ℕ} → Led z g n d → Led z h n d
+  led-up : {z : Sizes} {n : Ballot} {d : ℕ} → Led z g n d → Led z h n d
   led-up {n = n} o = record { started = e .grows n .started (o .started); decided = λ p. decided-up e (o .decided p) }
 
-  pub reached-up : {i k : ℕ} {n : Ballot} → Reached g i n k → Reached h i n k
+  reached-up : {i k : ℕ} {n : Ballot} → Reached g i n k → Reached h i n k
   reached-up {i} {k} {n} o = record { has = omega (arith, o .has, moves e i .up n) }
 
   pub noted-up : {n : Ballot} {t : ℕ} {d : Depot} → Noted g n t d → Noted h n t d
@@ -103,7 +103,7 @@ module _ (z : Sizes) {b : ℕ} {g h : Ghost ℕ} (e : Ext b g h) where
     msg-up i j (msg.Decide m) es o = led-up e o
     msg-up i j msg.ProposalForward es o = o
 
-    pub ok-up : (i j : ℕ) (m : Msg) → Ok z P g i j m → Ok z P h i j m
+    ok-up : (i j : ℕ) (m : Msg) → Ok z P g i j m → Ok z P h i j m
     ok-up i j m o = msg-up i j (m .msg) (m .entries) o
 
     pub oks-up : (i j : ℕ) {l : List Msg} → All (Ok z P g i j) l → All (Ok z P h i j) l

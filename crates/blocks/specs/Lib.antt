@@ -1,0 +1,2 @@
+-- The definitions of `blocks`.
+pub mod Blocks

@@ -1,0 +1,2 @@
+-- The definitions of `refusal_laws`.
+pub mod Rows

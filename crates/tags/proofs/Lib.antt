@@ -1,0 +1,2 @@
+-- The laws of `tags`.
+pub mod Back

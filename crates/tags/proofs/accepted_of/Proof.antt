@@ -1,0 +1,13 @@
+-- `accepted_of` meets its contract.
+use Rattle.base.proofs.Sets.{picks}
+use Rattle.tags.proofs.accepted_of.Statement.{statement}
+use Rattle.tags.proofs.accepted_of.Tie as tie
+
+returns : tie.Need-returns
+returns c = search picks
+
+returns-2 : tie.Need-returns-2
+returns-2 c = search picks
+
+pub accepted-of-spec : {M : Type 1} → statement M
+accepted-of-spec = tie.close (tie.spec returns returns-2)

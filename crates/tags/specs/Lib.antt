@@ -1,0 +1,3 @@
+-- The definitions of `tags`.
+pub mod Tags
+pub mod Variants
