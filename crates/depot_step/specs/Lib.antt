@@ -1,0 +1,2 @@
+-- The definitions of `depot_step`.
+pub mod Heads

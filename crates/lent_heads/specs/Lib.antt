@@ -1,0 +1,2 @@
+-- The definitions of `lent_heads`.
+pub mod Heads
