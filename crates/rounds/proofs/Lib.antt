@@ -1,0 +1,2 @@
+-- Laws that the proofs of `rounds` use.
+pub mod Laws
