@@ -1,0 +1,1 @@
+// Stand-in for the missing utils/mod.rs: only the logger lives there, and logging is off.
