@@ -87,7 +87,9 @@ impl Site {
     {
         let node = Record::fresh();
         let none = no_head();
-        let row = Row { heads: [none; MAX_MESSAGES] };
+        let row = Row {
+            heads: [none; MAX_MESSAGES],
+        };
         let log = [0u64; MAX_LOG];
         let cached = [0u64; MAX_LOG];
         let best = [0u64; MAX_LOG];

@@ -4,8 +4,8 @@ use cluster::Cluster;
 use messages::Event;
 use rounds::act;
 use rounds::drain;
-use telling::say;
 use rounds::settle;
+use telling::say;
 
 // Pump 7: out on day 10, back on day 14. Pump 9: out on day 20, back on day 27.
 const OUT_7: u64 = 5127;
@@ -50,7 +50,9 @@ fn forward(c: Cluster) -> Cluster {
 }
 
 fn lose(c: Cluster) -> Cluster {
-    say(b"\n-- What goes to depot 3 is lost; it sees the gap at the next message, and asks to be prepared again.\n");
+    say(
+        b"\n-- What goes to depot 3 is lost; it sees the gap at the next message, and asks to be prepared again.\n",
+    );
     let c1 = drain(give(c, 1, BACK_7), 1, 3);
     settle(c1, 64)
 }
@@ -71,18 +73,25 @@ fn part(c: Cluster) -> Cluster {
 }
 
 fn two_leaders(c: Cluster) -> Cluster {
-    say(b"\n-- Depot 1 still leads for itself: the entry it takes is not accepted by the others.\n");
+    say(
+        b"\n-- Depot 1 still leads for itself: the entry it takes is not accepted by the others.\n",
+    );
     let c1 = settle(give(c, 1, OUT_8), 64);
     say(b"\n-- Depot 3 takes an entry, which depots 2 and 3 decide.\n");
     settle(give(c1, 3, OUT_9), 64)
 }
 
 fn heal(c: Cluster) -> Cluster {
-    say(b"\n-- Depot 3 resends its Prepare, which reaches depot 1: the entry that nobody decided gives way.\n");
+    say(
+        b"\n-- Depot 3 resends its Prepare, which reaches depot 1: the entry that nobody decided gives way.\n",
+    );
     let c1 = settle(tell(c, 3, b" resends", Event::Resend), 64);
     say(b"\n-- Depot 1 restarts, reconnects, and forwards an entry.\n");
     let c2 = tell(c1, 1, b" restarts", Event::Restart);
-    let c3 = settle(tell(c2, 1, b" reconnects with depot 3", Event::Reconnect(3)), 64);
+    let c3 = settle(
+        tell(c2, 1, b" reconnects with depot 3", Event::Reconnect(3)),
+        64,
+    );
     settle(give(c3, 1, BACK_9), 64)
 }
 

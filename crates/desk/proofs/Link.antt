@@ -14,8 +14,7 @@ pub depots-step :
     (κs : _) (a : _) (r₁ r₂ : _) (s₁ s₂ : _) → step-reads.Post κs a r₁ s₁ → step-reads.Post κs a r₂ s₂
     → (r₁ ≡ r₂) × (s₁ .1 .0 .now ≡ s₂ .1 .0 .now) × (s₁ .1 .1 .0 .now ≡ s₂ .1 .1 .0 .now) × (s₁ .1 .1 .1 .0 .now ≡ s₂ .1 .1 .1 .0 .now) × (s₁ .1 .1 .1 .1 .0 .now ≡ s₂ .1 .1 .1 .1 .0 .now) × (s₁ .1 .1 .1 .1 .1 .0 .now ≡ s₂ .1 .1 .1 .1 .1 .0 .now) × (s₁ .1 .1 .1 .1 .1 .1 .0 .now ≡ s₂ .1 .1 .1 .1 .1 .1 .0 .now) × (s₁ .1 .1 .1 .1 .1 .1 .1 .0 .now ≡ s₂ .1 .1 .1 .1 .1 .1 .1 .0 .now) × (s₁ .1 .1 .1 .1 .1 .1 .1 .1 .1 .1 .0 .now ≡ s₂ .1 .1 .1 .1 .1 .1 .1 .1 .1 .1 .0 .now) × (s₁ .1 .1 .1 .1 .1 .1 .1 .1 .1 .1 .1 .0 .now ≡ s₂ .1 .1 .1 .1 .1 .1 .1 .1 .1 .1 .1 .0 .now)
 depots-step κs a r₁ r₂ s₁ s₂ p q =
-    let e = p .0 ∙ sym (q .0) in
-    (
+    let e = p .0 ∙ sym (q .0) in (
       ap (λ (x : Linked). x .answer .no) e,
       ap (λ (x : Linked). x .after .node) e,
       ap (λ (x : Linked). x .after .row) e,

@@ -1,5 +1,6 @@
 // The limits of document 01, each met and then passed, and every refusal with everything lent shown unchanged. One line a case.
 mod boxes;
+
 use ballot::Ballot;
 use boxes::decided_past;
 use boxes::first_ballot;
@@ -97,8 +98,18 @@ fn queue_limits() {
     case(b"queue 64 and a message", s2, Event::Reconnect(2), &none);
     let promise = promise_from(2, first_ballot());
     let t = again(leader_of(cluster::majority(3, 1), 512, 0), promise, 7);
-    let t1 = case(b"queue of 3,584 entries and an AcceptSync of 512", t, promise, &none);
-    case(b"queue of 4,096 entries and an AcceptSync of 512", t1, promise, &none);
+    let t1 = case(
+        b"queue of 3,584 entries and an AcceptSync of 512",
+        t,
+        promise,
+        &none,
+    );
+    case(
+        b"queue of 4,096 entries and an AcceptSync of 512",
+        t1,
+        promise,
+        &none,
+    );
 }
 
 // Seven depots, all of which must promise: the last Promise draws six AcceptSyncs of 512 entries.
@@ -125,16 +136,36 @@ fn six_syncs() {
         site = again(site, promise_from(from, n), 1);
         from += 1;
     }
-    case(b"queue 0 and the Promise that draws six AcceptSyncs", site, promise_from(7, n), &none);
+    case(
+        b"queue 0 and the Promise that draws six AcceptSyncs",
+        site,
+        promise_from(7, n),
+        &none,
+    );
 }
 
 fn refusals() {
     let none = [0u64; 0];
     let above = [33_554_432u64; 1];
     let s = Site::fresh(cluster::majority(3, 1));
-    case(b"1: one depot", Site::fresh(cluster::majority(1, 1)), Event::Drain, &none);
-    case(b"2: decided index above the log's length", decided_past(s), Event::Drain, &none);
-    case(b"3: a reconnect that names depot 0", s, Event::Reconnect(0), &none);
+    case(
+        b"1: one depot",
+        Site::fresh(cluster::majority(1, 1)),
+        Event::Drain,
+        &none,
+    );
+    case(
+        b"2: decided index above the log's length",
+        decided_past(s),
+        Event::Drain,
+        &none,
+    );
+    case(
+        b"3: a reconnect that names depot 0",
+        s,
+        Event::Reconnect(0),
+        &none,
+    );
     case(b"4: an entry above its limit", s, Event::Propose, &above);
 }
 
@@ -146,10 +177,25 @@ fn later_refusals() {
     let top = leader_of(cluster::majority(3, 1), 0, base::LARGEST);
     let s = Site::fresh(cluster::majority(3, 1));
     case(b"5: a full log and an entry", full, Event::Propose, &one);
-    case(b"6: a full queue and a message", again(s, Event::Reconnect(2), 64), Event::Reconnect(3), &none);
-    case(b"7: a session at its top and a Promise", top, promise_from(2, first_ballot()), &none);
+    case(
+        b"6: a full queue and a message",
+        again(s, Event::Reconnect(2), 64),
+        Event::Reconnect(3),
+        &none,
+    );
+    case(
+        b"7: a session at its top and a Promise",
+        top,
+        promise_from(2, first_ballot()),
+        &none,
+    );
     let waiting = s.step(Event::Propose, &sixteen);
-    case(b"8: a full buffer and an entry", waiting.site, Event::Propose, &one);
+    case(
+        b"8: a full buffer and an entry",
+        waiting.site,
+        Event::Propose,
+        &one,
+    );
 }
 
 fn main() {

@@ -5,8 +5,8 @@ use leader_state::Latest;
 use messages::Event;
 use rounds::act;
 use rounds::drain;
-use telling::say;
 use rounds::settle;
+use telling::say;
 
 // Pump 7: out on day 10, back on day 14, out on day 33, back on day 35.
 const OUT_10: u64 = 5127;
@@ -24,7 +24,13 @@ fn lead(c: Cluster) -> Cluster {
         priority: 0,
         pid: 1,
     };
-    let c1 = act(c, 1, b" is told to lead with 1.0.1", Event::Leader(n), &none);
+    let c1 = act(
+        c,
+        1,
+        b" is told to lead with 1.0.1",
+        Event::Leader(n),
+        &none,
+    );
     let c2 = drain(c1, 1, 0);
     let c3 = drain(c2, 2, 0);
     drain(c3, 3, 0)
@@ -40,7 +46,9 @@ fn lose_session_1(c: Cluster) -> Cluster {
     say(b"\n-- The AcceptSync of session 1 to depot 3 is lost.\n");
     let c1 = drain(c, 1, 3);
     let c2 = drain(c1, 2, 0);
-    say(b"\n-- The first entry: an AcceptDecide of session 1 to depot 3 waits in the queue, and its position is remembered.\n");
+    say(
+        b"\n-- The first entry: an AcceptDecide of session 1 to depot 3 waits in the queue, and its position is remembered.\n",
+    );
     let c3 = propose(c2, OUT_10);
     rounds::say_queue(c3.site(1));
     c3
@@ -82,15 +90,23 @@ fn rest(c: Cluster) {
 }
 
 fn old_rule(c: Cluster) {
-    say(b"\n== The old rule, on a copy in which the position is put back: the second entry joins the message of number 1.2.\n");
-    say(b"-- Depot 3 drops that message, as it waits for an AcceptSync. Nobody sends it 7431 again, and it takes the next entry in its place:\n");
-    say(b"-- it misses the back of day 14, and charges the 19 days up to day 33 on which the pump stood in the yard.\n");
+    say(
+        b"\n== The old rule, on a copy in which the position is put back: the second entry joins the message of number 1.2.\n",
+    );
+    say(
+        b"-- Depot 3 drops that message, as it waits for an AcceptSync. Nobody sends it 7431 again, and it takes the next entry in its place:\n",
+    );
+    say(
+        b"-- it misses the back of day 14, and charges the 19 days up to day 33 on which the pump stood in the yard.\n",
+    );
     let c1 = second_entry(remembered(c));
     rest(c1);
 }
 
 fn new_rule(c: Cluster) {
-    say(b"\n== The new rule: the AcceptSync forgot the position, and the second entry goes to depot 3 in an AcceptDecide of session 2.\n");
+    say(
+        b"\n== The new rule: the AcceptSync forgot the position, and the second entry goes to depot 3 in an AcceptDecide of session 2.\n",
+    );
     let c1 = second_entry(c);
     rest(c1);
 }

@@ -65,7 +65,7 @@ loop-again c = (below-more _ _ (c .before .before .before .before .loop .inv .0)
 
 -- src/lib.rt:246:1
 returns-3 : tie.Need-returns-3 Inv-loop μ-loop
-returns-3 c = 
+returns-3 c =
     ((λ e. ext-getD 0 (c .before .before .before .args .a .now) (c .before .before .before .args .b .now) (c .before .before .if1 .left) (subst (λ (n : ℕ). (k : ℕ) → k < n → getD (c .before .before .before .args .a .now) k 0 ≡ getD (c .before .before .before .args .b .now) k 0) (le-antisymm (c .before .loop .inv .1) (c .loop-test .left)) (c .before .loop .inv .0))), (λ e. refl))
 
 pub same-spec : {M : Type 1} → statement M
