@@ -59,6 +59,8 @@ pub struct Net {
     starts: Vec<Option<State>>,
     history: Vec<Vec<Event>>,
     round: u32,
+    /// Every step that was taken, in order: box and event.
+    order: Vec<(usize, Event)>,
 }
 
 impl Net {
@@ -71,6 +73,7 @@ impl Net {
             starts: vec![None; d],
             history: vec![vec![]; d],
             round: 0,
+            order: vec![],
         }
     }
 
@@ -104,6 +107,9 @@ impl Net {
         self.history[at].push(e.clone());
         match self.pairs[at].step(&e, table, None) {
             Ok(outcome) => {
+                if outcome.no == 0 {
+                    self.order.push((at, e));
+                }
                 for m in outcome.handed_out {
                     self.links[at * self.pairs.len() + m.to as usize - 1].push_back(m.msg);
                 }
@@ -238,4 +244,15 @@ pub fn run(profile: &Profile, seed: u64, steps: u64, table: &mut Table) -> Resul
         net.act(profile, &mut random, table)?;
     }
     Ok(net.steps())
+}
+
+/// The steps that three calm depots take, at least so many, compared as they are made.
+pub fn calm(seed: u64, steps: usize, table: &mut Table) -> Result<Vec<(usize, Event)>, Box<Found>> {
+    let mut random = Random::seeded(seed);
+    let mut net = Net::fresh(Cluster { depots: 3, flexible: None });
+    while net.order.len() < steps {
+        net.act(&PROFILES[0], &mut random, table)?;
+    }
+    net.order.truncate(steps);
+    Ok(net.order)
 }

@@ -1,4 +1,5 @@
 // Side by side: the given Rust text and the port, the same steps to both, everything compared after each.
+mod bench;
 mod broken;
 mod cluster;
 mod expect;
@@ -193,6 +194,7 @@ fn main() {
         "quick" => quick(base),
         "replay" => replay(word(1).unwrap_or("")),
         "tell" => tell(word(1).unwrap_or("")),
+        "bench" => bench::run(base),
         "list" => {
             let (text, steps) = list::list();
             print!("{text}");
@@ -200,7 +202,7 @@ fn main() {
             true
         }
         other => {
-            eprintln!("compare: standard [SEED] | quick [SEED] | replay FILE | tell FILE | power | list, not {other}");
+            eprintln!("compare: standard [SEED] | quick [SEED] | replay FILE | tell FILE | power | list | bench [SEED], not {other}");
             false
         }
     };

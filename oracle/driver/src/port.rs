@@ -179,6 +179,12 @@ impl Words {
         w
     }
 
+    /// How much memory a box is lent.
+    pub fn bytes(&self) -> usize {
+        let lists = [&self.configuration, &self.record, &self.row, &self.log, &self.cached, &self.best, &self.store, &self.book];
+        lists.iter().map(|w| 8 * w.len()).sum()
+    }
+
     pub fn step_words(&mut self, event: &[u64], entries: &[u64]) -> Answer {
         let (mut dropped, mut handed_out) = (u64::MAX, u64::MAX);
         #[rustfmt::skip]
