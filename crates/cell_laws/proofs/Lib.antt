@@ -1,0 +1,2 @@
+-- Cells that nothing uses.
+pub mod Cells

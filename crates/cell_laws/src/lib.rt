@@ -1,0 +1,1 @@
+// No code: cells that nothing uses keep what they held.
