@@ -35,7 +35,9 @@ use Rattle.paxos_box.specs.Box.{unfit, atTop, nextPlace, setDecided, setCached,
 use Rattle.sends.specs.declared.Each.the-variants as each
 use Rattle.sends.specs.Sends.{logLength, sendPrepareReq}
 use Rattle.log_plan.specs.Log.{syncEnd, syncUnfit, syncLog, appendGiven}
-use Rattle.follower.specs.Follower.{recovering, leftLeader, reconnectedOf, logFrom, promisedSync, countOf, buildFits, cachePromise, tellPromise, promiseTo, prepareTaken, handlePrepare, byBallot, ifValidBallot, sendAccepted, givenSync, acceptsyncPut, following, acceptsyncTaken, acceptsyncIn, handleAcceptsync, counterAtTop, byStatus, ifExpected, latestAccepted, replyBy, replyAccepted, updateDecided, acceptdecideTaken, acceptdecideFit, acceptdecideIn, handleAcceptdecide, decideTaken, decideExpected, handleDecide, resendCached, resendIn, resendMessagesFollower}
+use Rattle.reconnect.specs.Reconnect.{recovering, leftLeader, reconnectedOf}
+use Rattle.accepting.specs.Accepting.{byBallot, ifValidBallot, sendAccepted, givenSync, acceptsyncPut, following, acceptsyncTaken, acceptsyncIn, handleAcceptsync, counterAtTop, byStatus, ifExpected, latestAccepted, replyBy, replyAccepted, updateDecided, acceptdecideTaken, acceptdecideFit, acceptdecideIn, handleAcceptdecide, decideTaken, decideExpected, handleDecide}
+use Rattle.follower.specs.Follower.{logFrom, promisedSync, countOf, buildFits, cachePromise, tellPromise, promiseTo, prepareTaken, handlePrepare, resendCached, resendIn, resendMessagesFollower}
 use Rattle.decide_laws.proofs.Grown.{either, InPlace, Step, Rises, step-none, step-then, step-more, step-stored, quiet-step, one-step}
 use Rattle.decide_laws.proofs.Sends.{suffix-le, sent-push, sent-fits, sent-request}
 use Rattle.decide_laws.proofs.Log.{PromisedWithin, put-fits, step-synced, step-appended, step-forward-buffered}

@@ -32,7 +32,7 @@ use Rattle.paxos_box.specs.Box.{unfit, atTop, isLeader, isAcceptPhase, pushOf, 
 use Rattle.record.specs.Record.{loadOf}
 use Rattle.sends.specs.Sends.{logLength}
 use Rattle.log_plan.specs.Log.{syncUnfit, syncLog, appendGiven, hasLeader, pushForward, forwardBuffered}
-use Rattle.follower.specs.Follower.{ifValidBallot, givenSync, acceptsyncPut, following, acceptsyncTaken, acceptsyncIn, handleAcceptsync, sendAccepted, counterAtTop, byStatus, ifExpected, updateDecided, acceptdecideTaken, acceptdecideFit, acceptdecideIn, handleAcceptdecide, decideTaken, decideExpected, decideInAccept, handleDecide, replyAccepted}
+use Rattle.accepting.specs.Accepting.{ifValidBallot, givenSync, acceptsyncPut, following, acceptsyncTaken, acceptsyncIn, handleAcceptsync, sendAccepted, counterAtTop, byStatus, ifExpected, updateDecided, acceptdecideTaken, acceptdecideFit, acceptdecideIn, handleAcceptdecide, decideTaken, decideExpected, decideInAccept, handleDecide, replyAccepted}
 use Rattle.outgoing.specs.Perform.{performAll}
 use Rattle.views.specs.View.{View, Counted}
 use Rattle.decide_laws.proofs.Grown.{either}

@@ -21,7 +21,8 @@ use Rattle.paxos_box.specs.declared.Source.the-variants as source
 use Rattle.paxos_box.specs.Box.{isLeader, nextPlace, setMeta}
 use Rattle.outgoing.specs.Queue.{Msg}
 use Rattle.outgoing.specs.Perform.{raised, onPlace, performOne}
-use Rattle.follower.specs.Follower.{notAccepted, reconnectedOf, byBallot, ifValidBallot, sendAccepted, ofBallot, latestAccepted, raiseAccepted, replyBy, replyAccepted}
+use Rattle.reconnect.specs.Reconnect.{reconnectedOf}
+use Rattle.accepting.specs.Accepting.{notAccepted, byBallot, ifValidBallot, sendAccepted, ofBallot, latestAccepted, raiseAccepted, replyBy, replyAccepted}
 use Rattle.views.specs.View.{View}
 use Rattle.agreement.specs.Core.{Sizes, Ghost}
 use Rattle.travels.specs.Face.{withQueue, withMeta, push}

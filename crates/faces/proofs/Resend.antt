@@ -27,7 +27,8 @@ use Rattle.paxos_box.specs.declared.Phase.{Phase}
 use Rattle.paxos_box.specs.declared.Phase.the-variants as phase
 use Rattle.record.specs.Record.{loadOf}
 use Rattle.sends.specs.Sends.{peersOf}
-use Rattle.follower.specs.Follower.{startOf, countOf, cachedSource, recovering, prepareReqs, resendPromise, resendCached, resendIn, resendMessagesFollower}
+use Rattle.reconnect.specs.Reconnect.{recovering}
+use Rattle.follower.specs.Follower.{startOf, countOf, cachedSource, prepareReqs, resendPromise, resendCached, resendIn, resendMessagesFollower}
 use Rattle.sequence_paxos.specs.Decide.{drained, restarted}
 use Rattle.broken.specs.Broken.{syncIn as heldIn}
 use Rattle.outgoing.specs.Perform.{sourceOf, performAll}

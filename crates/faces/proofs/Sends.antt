@@ -18,7 +18,8 @@ use Rattle.paxos_box.specs.Box.{pushOf, isLeader, setBuffered}
 use Rattle.sends.specs.declared.Each.the-variants as each
 use Rattle.sends.specs.Sends.{sendNew, sendPrepare, sendPrepareReq, turnOf, forMarked}
 use Rattle.log_plan.specs.Log.{pushForward}
-use Rattle.follower.specs.Follower.{recovering, leftLeader, reconnectedOf, notAccepted}
+use Rattle.reconnect.specs.Reconnect.{recovering, leftLeader, reconnectedOf}
+use Rattle.accepting.specs.Accepting.{notAccepted}
 use Rattle.quorum.specs.declared.Configuration.{Configuration}
 use Rattle.paxos_box.specs.declared.Sight.{Sight}
 use Rattle.record.specs.Record.{loadOf}

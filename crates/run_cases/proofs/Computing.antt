@@ -12,7 +12,9 @@ use Rattle.paxos_box.specs.Box.{planned, pushOf}
 use Rattle.sends.specs.Sends.{suffixLength, syncFits, nextSessionOf, nextSeqNumOf, sendPrepare, newSession, pushAccSync, sendAccSync, accSyncTo, latestAccdec, joinTo, pushAcceptDecide, newAcceptDecide, acceptDecideTo, pushDecide, decideTo, sendPrepareReq, forMarked, peersOf}
 use Rattle.log_plan.specs.Log.{endsPast, putUnfit, syncUnfit, syncLog, appendGiven, keptOf, appendBuffered, bufferGiven, hasLeader, forwardProposals, forwardBuffered}
 use Rattle.leader.specs.Leader.{newLeader, ownPromise, becomeLeader, handleLeader, prepareAgain, handlePrepareReq, acceptEntriesLeader, handleForwardedProposal, syncHeld, syncWithBest, handleMajorityPromises, handlePromisePrepare, handlePromiseAccept, handlePromise, newlyChosen, decideIfChosen, acceptedTaken, handleAccepted, handleNotAccepted, resendMessagesLeader}
-use Rattle.follower.specs.Follower.{leftLeader, reconnectedOf, promisedSync, cachePromise, tellPromise, promiseTo, prepareTaken, handlePrepare, sendAccepted, acceptsyncPut, following, acceptsyncTaken, handleAcceptsync, counterAtTop, latestAccepted, replyAccepted, updateDecided, acceptdecideTaken, acceptdecideFit, handleAcceptdecide, decideTaken, handleDecide, resendMessagesFollower}
+use Rattle.reconnect.specs.Reconnect.{leftLeader, reconnectedOf}
+use Rattle.accepting.specs.Accepting.{sendAccepted, acceptsyncPut, following, acceptsyncTaken, handleAcceptsync, counterAtTop, latestAccepted, replyAccepted, updateDecided, acceptdecideTaken, acceptdecideFit, handleAcceptdecide, decideTaken, handleDecide}
+use Rattle.follower.specs.Follower.{promisedSync, cachePromise, tellPromise, promiseTo, prepareTaken, handlePrepare, resendMessagesFollower}
 use Rattle.sequence_paxos.specs.Decide.{drained, restarted, queueRefusal, outcomeRefusal, settled}
 use Rattle.hire_book.specs.Below.{anyBelow, sumBelow}
 use Rattle.hire_book.specs.Book.{entered, applyAll, freshBook, brokenAt, brokenOf, anyAbove}

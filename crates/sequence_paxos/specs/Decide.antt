@@ -25,7 +25,9 @@ use Rattle.paxos_box.specs.declared.CachedMessage.the-variants as cached
 use Rattle.paxos_box.specs.Box.{withLeader, withState, setMeta, setSeq, setCached, setBuffered}
 use Rattle.sequence_paxos.specs.declared.Decision.{Decision}
 use Rattle.leader.specs.Leader.{handleLeader, handlePrepareReq, handleForwardedProposal, handlePromise, handleAccepted, handleNotAccepted, resendMessagesLeader}
-use Rattle.follower.specs.Follower.{reconnectedOf, handlePrepare, handleAcceptsync, handleAcceptdecide, handleDecide, resendMessagesFollower}
+use Rattle.reconnect.specs.Reconnect.{reconnectedOf}
+use Rattle.accepting.specs.Accepting.{handleAcceptsync, handleAcceptdecide, handleDecide}
+use Rattle.follower.specs.Follower.{handlePrepare, resendMessagesFollower}
 
 -- a Promise's report, and the sync that it brings with so many entries
 abbrev pub reportOf : Promise → ℕ → PromiseMetaData

@@ -74,8 +74,8 @@ fn handle(s: SequencePaxos, m: PaxosMsg, count: usize, from: u64) -> SequencePax
         PaxosMsg::PrepareReq(x) => leader::handle_preparereq(s, x.n, from),
         PaxosMsg::Prepare(x) => follower::handle_prepare(s, x, from),
         PaxosMsg::Promise(x) => promise_arrives(s, x, count, from),
-        PaxosMsg::AcceptSync(x) => follower::handle_acceptsync(s, x, count, from),
-        PaxosMsg::AcceptDecide(x) => follower::handle_acceptdecide(
+        PaxosMsg::AcceptSync(x) => accepting::handle_acceptsync(s, x, count, from),
+        PaxosMsg::AcceptDecide(x) => accepting::handle_acceptdecide(
             s,
             x.n,
             x.seq_num,
@@ -84,7 +84,7 @@ fn handle(s: SequencePaxos, m: PaxosMsg, count: usize, from: u64) -> SequencePax
         ),
         PaxosMsg::Accepted(x) => leader::handle_accepted(s, x.n, x.accepted_idx, from),
         PaxosMsg::NotAccepted(x) => leader::handle_notaccepted(s, x.n, from),
-        PaxosMsg::Decide(x) => follower::handle_decide(s, x.n, x.seq_num, x.decided_idx),
+        PaxosMsg::Decide(x) => accepting::handle_decide(s, x.n, x.seq_num, x.decided_idx),
         PaxosMsg::ProposalForward => leader::handle_forwarded_proposal(s, count),
     }
 }
@@ -158,7 +158,7 @@ fn take(s: SequencePaxos, e: Event, count: usize) -> SequencePaxos
         Event::Message(m) => message_arrives(s, m, count),
         Event::Propose => proposal(s, count),
         Event::Leader(n) => leader::handle_leader(s, n),
-        Event::Reconnect(pid) => follower::reconnected(s, pid),
+        Event::Reconnect(pid) => reconnect::reconnected(s, pid),
         Event::Resend => resend_message_timeout(s),
         Event::Drain => take_outgoing_msgs(s),
         Event::Restart => restart(s),

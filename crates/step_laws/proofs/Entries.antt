@@ -42,7 +42,8 @@ use Rattle.paxos_box.specs.Box.{atTop, withLeader, pushOf, setBuffered, setCach
 use Rattle.sends.specs.Sends.{theDepot, onDepot, logLength, suffixLength, nextSeqNumOf, setLatestOf, sendPrepare, pushAccSync, joinTo, pushAcceptDecide, newAcceptDecide, pushDecide, sendPrepareReq}
 use Rattle.log_plan.specs.Log.{syncEnd, syncLog, appendGiven, keptOf, appendBuffered, bufferGiven}
 use Rattle.leader.specs.Leader.{ownPromise, ownMeta, keepSync}
-use Rattle.follower.specs.Follower.{countOf, logSource, cachedSource, keptSync, promiseOf, sendPromise, cachePromise, sendAccepted}
+use Rattle.accepting.specs.Accepting.{sendAccepted}
+use Rattle.follower.specs.Follower.{countOf, logSource, cachedSource, keptSync, promiseOf, sendPromise, cachePromise}
 use Rattle.broken.specs.Broken.{syncIn}
 use Rattle.refusals.proofs.Taken.{Depot, Fit}
 use Rattle.decide_laws.proofs.Grown.{either}

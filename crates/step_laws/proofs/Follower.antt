@@ -39,7 +39,9 @@ use Rattle.paxos_box.specs.Box.{unfit, atTop, withState, setPromised, setDecide
 use Rattle.sends.specs.declared.Each.the-variants as each
 use Rattle.sends.specs.Sends.{logLength, syncFits, sendPrepareReq, peersOf}
 use Rattle.log_plan.specs.Log.{syncEnd, syncUnfit, syncLog, appendGiven, hasLeader, pushForward, forwardBuffered}
-use Rattle.follower.specs.Follower.{recovering, leftLeader, reconnectedOf, logFrom, promisedSync, logSource, buildFits, promiseOf, sendPromise, cachePromise, tellPromise, promiseTo, prepareTaken, handlePrepare, byBallot, ifValidBallot, sendAccepted, givenSync, acceptsyncPut, following, acceptsyncTaken, acceptsyncIn, handleAcceptsync, counterAtTop, byStatus, ifExpected, latestAccepted, replyBy, replyAccepted, updateDecided, acceptdecideTaken, acceptdecideFit, acceptdecideIn, handleAcceptdecide, decideTaken, decideExpected, handleDecide, resendCached, resendIn, resendMessagesFollower}
+use Rattle.reconnect.specs.Reconnect.{recovering, leftLeader, reconnectedOf}
+use Rattle.accepting.specs.Accepting.{byBallot, ifValidBallot, sendAccepted, givenSync, acceptsyncPut, following, acceptsyncTaken, acceptsyncIn, handleAcceptsync, counterAtTop, byStatus, ifExpected, latestAccepted, replyBy, replyAccepted, updateDecided, acceptdecideTaken, acceptdecideFit, acceptdecideIn, handleAcceptdecide, decideTaken, decideExpected, handleDecide}
+use Rattle.follower.specs.Follower.{logFrom, promisedSync, logSource, buildFits, promiseOf, sendPromise, cachePromise, tellPromise, promiseTo, prepareTaken, handlePrepare, resendCached, resendIn, resendMessagesFollower}
 use Rattle.refusals.proofs.Taken.{Real, Fit, Reports}
 use Rattle.decide_laws.proofs.Grown.{either}
 use Rattle.step_laws.proofs.Moves.{Unwritten, Brought, Tells, Closed, Found}

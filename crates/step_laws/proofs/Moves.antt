@@ -36,7 +36,8 @@ use Rattle.paxos_box.specs.Box.{unfit, atTop, withState, withLeader, setPromise
 use Rattle.sends.specs.Sends.{onDepot, logLength, suffixLength, sendPrepare, pushAccSync, joinTo, newAcceptDecide, pushDecide, sendPrepareReq}
 use Rattle.log_plan.specs.Log.{syncEnd, syncLog, appendGiven, appendBuffered, bufferGiven, pushForward}
 use Rattle.leader.specs.Leader.{keepPromise, ownPromise, syncTaken, keepSync}
-use Rattle.follower.specs.Follower.{logSource, cachedSource, promiseOf, sendPromise, cachePromise, notAccepted, sendAccepted, raiseAccepted}
+use Rattle.accepting.specs.Accepting.{notAccepted, sendAccepted, raiseAccepted}
+use Rattle.follower.specs.Follower.{logSource, cachedSource, promiseOf, sendPromise, cachePromise}
 use Rattle.sight.specs.Sight.{brought}
 use Rattle.decide_laws.proofs.Log.{PutFits}
 use Rattle.refusals.proofs.Taken.{Depot, Known, Real, Fit}

@@ -26,7 +26,8 @@ use Rattle.paxos_box.specs.Box.{atTop, pushOf, setBuffered, setMeta, nextPlace}
 use Rattle.sends.specs.Sends.{theDepot, onDepot, nextSeqNumOf, setLatestOf, sendPrepare, pushAccSync, joinTo, pushAcceptDecide, newAcceptDecide, pushDecide, sendPrepareReq}
 use Rattle.log_plan.specs.Log.{syncLog, appendGiven, appendBuffered, bufferGiven}
 use Rattle.leader.specs.Leader.{keepPromise, ownPromise, ownMeta, keepSync}
-use Rattle.follower.specs.Follower.{cachePromise, sendAccepted}
+use Rattle.accepting.specs.Accepting.{sendAccepted}
+use Rattle.follower.specs.Follower.{cachePromise}
 use Rattle.sequence_paxos.specs.Decide.{taken, drained, restarted}
 use Rattle.refusals.proofs.Taken.{Depot, Taken}
 use Rattle.step.specs.Step.{World, boxOf}

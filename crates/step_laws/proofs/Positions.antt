@@ -29,7 +29,8 @@ use Rattle.paxos_box.specs.Box.{atTop, withLeader, pushOf, setBuffered, setMeta
 use Rattle.sends.specs.Sends.{theDepot, onDepot, nextSeqNumOf, setLatestOf, sendPrepare, pushAccSync, joinTo, pushAcceptDecide, newAcceptDecide, pushDecide, sendPrepareReq}
 use Rattle.log_plan.specs.Log.{syncLog, appendGiven, appendBuffered, bufferGiven}
 use Rattle.leader.specs.Leader.{keepPromise, ownPromise, keepSync}
-use Rattle.follower.specs.Follower.{cachePromise, sendAccepted}
+use Rattle.accepting.specs.Accepting.{sendAccepted}
+use Rattle.follower.specs.Follower.{cachePromise}
 use Rattle.refusals.proofs.Taken.{Depot, LatestBelow}
 use Rattle.decide_laws.proofs.Grown.{either}
 use Rattle.step_laws.proofs.Moves.{Mild, Closed}

@@ -28,7 +28,8 @@ use Rattle.paxos_box.specs.Box.{atTop, pushOf, setBuffered, nextPlace, setMeta}
 use Rattle.sends.specs.Sends.{logLength, theDepot, onDepot, nextSeqNumOf, setLatestOf, sendPrepare, pushAccSync, joinTo, pushAcceptDecide, newAcceptDecide, pushDecide, sendPrepareReq}
 use Rattle.log_plan.specs.Log.{syncEnd, syncLog, appendGiven, keptOf, appendBuffered, bufferGiven}
 use Rattle.leader.specs.Leader.{keepPromise, ownPromise, keepSync}
-use Rattle.follower.specs.Follower.{cachePromise, sendAccepted}
+use Rattle.accepting.specs.Accepting.{sendAccepted}
+use Rattle.follower.specs.Follower.{cachePromise}
 use Rattle.storage.specs.Storage.{endAfter, bestCount, bufferCount}
 use Rattle.outgoing.specs.Perform.{Sums}
 use Rattle.outgoing.proofs.Kept.{sums-planned}

@@ -38,7 +38,9 @@ use Rattle.paxos_box.specs.declared.Standing.the-variants.{LeaderPrepare, Leade
 use Rattle.paxos_box.specs.Box.{unfit, atTop, nextPlace, setDecided, setBuffered, setCached, setMeta, setSeq, isRecover, isAcceptPhase}
 use Rattle.sends.specs.Sends.{logLength, syncFits, sendPrepareReq, peersOf}
 use Rattle.log_plan.specs.Log.{syncEnd, endsPast, putUnfit, syncUnfit, syncLog, appendGiven, hasLeader, pushForward, forwardBuffered}
-use Rattle.follower.specs.Follower.{recovering, leftLeader, reconnectedOf, logFrom, promisedSync, buildFits, cachePromise, tellPromise, promiseTo, prepareTaken, handlePrepare, notAccepted, byBallot, ifValidBallot, sendAccepted, givenSync, acceptsyncPut, following, acceptsyncTaken, acceptsyncIn, handleAcceptsync, counterAtTop, byStatus, ifExpected, latestAccepted, replyBy, replyAccepted, updateDecided, acceptdecideTaken, acceptdecideFit, acceptdecideIn, handleAcceptdecide, decideTaken, decideExpected, decideInAccept, handleDecide, resendCached, resendIn, resendMessagesFollower}
+use Rattle.reconnect.specs.Reconnect.{recovering, leftLeader, reconnectedOf}
+use Rattle.accepting.specs.Accepting.{notAccepted, byBallot, ifValidBallot, sendAccepted, givenSync, acceptsyncPut, following, acceptsyncTaken, acceptsyncIn, handleAcceptsync, counterAtTop, byStatus, ifExpected, latestAccepted, replyBy, replyAccepted, updateDecided, acceptdecideTaken, acceptdecideFit, acceptdecideIn, handleAcceptdecide, decideTaken, decideExpected, decideInAccept, handleDecide}
+use Rattle.follower.specs.Follower.{logFrom, promisedSync, buildFits, cachePromise, tellPromise, promiseTo, prepareTaken, handlePrepare, resendCached, resendIn, resendMessagesFollower}
 use Rattle.decide_laws.proofs.Grown.{either}
 use Rattle.decide_laws.proofs.Log.{put-fits}
 use Rattle.table_laws.specs.Words.{standing, decidedIndex, PrepareTaken, AcceptSyncTaken, AcceptDecideCompared, DecideCompared, OwnAtTop, AcceptDecideTaken, PutUnfit, ends-past, starts-past, changes-decided, ends-below-decided, ends-below-brought, PrepareUnfit, AcceptSyncUnfit, AcceptDecideUnfit}

@@ -36,7 +36,7 @@ use Rattle.paxos_box.specs.Box.{standingOf}
 use Rattle.sends.specs.Sends.{theDepot, logLength, syncStartOf, latestAccdec}
 use Rattle.log_plan.specs.Log.{syncEnd, keptOf}
 use Rattle.leader.specs.Leader.{reached, changeOf, setAcceptedOf, newlyChosen}
-use Rattle.follower.specs.Follower.{givenSync}
+use Rattle.accepting.specs.Accepting.{givenSync}
 use Rattle.sequence_paxos.specs.Decide.{reportOf, broughtBy}
 
 -- Where a box stands, and the index up to which it has decided

@@ -36,7 +36,8 @@ use Rattle.paxos_box.specs.Box.{withLeader, atTop, setCached, setBuffered, setM
 use Rattle.sends.specs.Sends.{logLength, suffixLength, theDepot, onDepot, setLatestOf, nextSeqNumOf, sendPrepare, pushAccSync, joinTo, pushAcceptDecide, newAcceptDecide, pushDecide, sendPrepareReq}
 use Rattle.log_plan.specs.Log.{syncEnd, syncLog, appendGiven, keptOf, appendBuffered, bufferGiven, pushForward}
 use Rattle.leader.specs.Leader.{keepPromise, ownMeta, ownPromise, keepSync}
-use Rattle.follower.specs.Follower.{countOf, logSource, cachedSource, keptSync, promiseOf, sendPromise, cachePromise, sendAccepted}
+use Rattle.accepting.specs.Accepting.{sendAccepted}
+use Rattle.follower.specs.Follower.{countOf, logSource, cachedSource, keptSync, promiseOf, sendPromise, cachePromise}
 use Rattle.sequence_paxos.specs.Decide.{drained, restarted}
 use Rattle.broken.specs.Broken.{syncIn}
 use Rattle.storage.specs.Storage.{endAfter}

@@ -1,0 +1,2 @@
+-- The definitions of `accepting`.
+pub mod Accepting

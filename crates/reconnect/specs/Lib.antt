@@ -1,0 +1,2 @@
+-- The definitions of `reconnect`.
+pub mod Reconnect
