@@ -1,7 +1,6 @@
--- The laws of `base`: rulesets, refusals in order, counts and marked places.
+-- The laws of `base`: rulesets, refusals in order, lists, counts and tests.
 pub mod Sets
 pub mod Refusal
 pub mod Lists
-pub mod Marked
 pub mod Meet
 pub mod Tests

@@ -15,7 +15,7 @@ pub record Shared (f g : ℕ → Bool) (n : ℕ) : Type 0 where
   pub first : f place ≡ true
   pub second : g place ≡ true
 
-one-le : (b : Bool) → one b ≤ 1
+pub one-le : (b : Bool) → one b ≤ 1
 one-le true = omega arith
 one-le false = omega arith
 

@@ -1,5 +1,4 @@
--- The definitions of `base`: limits, counts over lists, ordered refusals.
+-- The definitions of `base`: limits, lists and counts over them.
 pub mod Limits
 pub mod Lists
 pub mod Count
-pub mod Refusal

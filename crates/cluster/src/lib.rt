@@ -117,7 +117,7 @@ impl Site {
         let mut best = self.best;
         let mut store = self.store;
         let mut book = self.book;
-        let x = depot::step_row(
+        let x = own_row::step(
             config,
             self.node,
             self.row,

@@ -10,6 +10,7 @@ use lib.Dec.{ltb, eqb}
 use lib.ListN.{getD, take, set}
 use Rattle.base.specs.Limits.{maxLog}
 use Rattle.base.specs.Count.{one}
+use Rattle.base.proofs.Meet.{one-le}
 use Rattle.ballot.specs.Ballot.{above}
 use Rattle.ballot.specs.declared.Ballot.{Ballot}
 use Rattle.ballot.proofs.Laws.{transitive}
@@ -219,10 +220,6 @@ Quiet s r = Sent nobody 0 s r
 
 abbrev pub SentOne : ℕ → SequencePaxos → SequencePaxos → Type 0
 SentOne to s r = Sent (justTo to) 1 s r
-
-pub one-le : (b : Bool) → one b ≤ 1
-one-le true = omega arith
-one-le false = omega arith
 
 just-one : (to pid : ℕ) → justTo to pid ≤ 1
 unfolding justTo

@@ -7,6 +7,7 @@ use native.Mathlib.Omega.{arith}
 use lib.Dec.{ltb, leb, eqb}
 use borrow.Author.Tests.{ltb-true, ltb-false}
 use Rattle.base.specs.Limits.{maxLog, maxDepots}
+use Rattle.base.proofs.Meet.{one-le}
 use Rattle.ballot.specs.Ballot.{above, same}
 use Rattle.ballot.specs.declared.Ballot.{Ballot}
 use Rattle.quorum.specs.declared.Configuration.{Configuration}
@@ -36,7 +37,7 @@ use Rattle.sends.specs.declared.Each.the-variants as each
 use Rattle.sends.specs.Sends.{onDepot, logLength, setLatestOf, peersOf}
 use Rattle.log_plan.specs.Log.{syncEnd, syncUnfit, syncLog, appendGiven, appendBuffered}
 use Rattle.leader.specs.Leader.{forFollowers, forPreparable, forPeers, keepPromise, reached, newLeader, ownPromise, becomeLeader, becomeFollower, handleLeader, prepareAgain, handlePrepareReq, setAcceptedOf, ownAccepted, acceptEntriesLeader, proposalIn, handleForwardedProposal, putOp, changeOf, leaderSyncs, syncHeld, syncBy, syncWithBest, syncTaken, handleMajorityPromises, keepSync, handlePromisePrepare, handlePromiseAccept, bringsPast, promiseIn, handlePromise, newlyChosen, decideIfChosen, acceptedTaken, acceptedIn, handleAccepted, lostPromise, handleNotAccepted, resendIn, resendMessagesLeader}
-use Rattle.decide_laws.proofs.Grown.{either, InPlace, one-le, Step, Longer, step-none, step-then, step-more, step-stored, step-places, Sent, same-storage, sent-step, sent-more, sent-after, quiet-step, one-step}
+use Rattle.decide_laws.proofs.Grown.{either, InPlace, Step, Longer, step-none, step-then, step-more, step-stored, step-places, Sent, same-storage, sent-step, sent-more, sent-after, quiet-step, one-step}
 use Rattle.decide_laws.proofs.Marks.{few-followers, few-preparable, few-peers}
 use Rattle.decide_laws.proofs.Sends.{Few, upTo, sent-depot, sent-sync-to, sent-prepare, sent-marked}
 use Rattle.decide_laws.proofs.Log.{PromisedWithin, put-fits, step-synced, step-appended, kept-within, step-buffered-joined, step-buffered, step-forward}
@@ -302,7 +303,7 @@ step-promise n m sync s h own p l =
     by Other e = stay
 
 -- Accepted
-above-decided : (idx : ℕ) (s : SequencePaxos) → newlyChosen idx s ≡ true → s .«internal_storage» .«decided_idx» < idx
+pub above-decided : (idx : ℕ) (s : SequencePaxos) → newlyChosen idx s ≡ true → s .«internal_storage» .«decided_idx» < idx
 unfolding newlyChosen
 above-decided idx s f = ltb-true _ _ (first (ltb (s .«internal_storage» .«decided_idx») idx) _ f)
   where

@@ -19,8 +19,9 @@ use Rattle.paxos_box.specs.declared.Outgoing.{Outgoing}
 use Rattle.paxos_box.specs.declared.Role.{Role}
 use Rattle.paxos_box.specs.declared.Role.the-variants.{Leader, Follower}
 use Rattle.paxos_box.specs.Box.{standingOf}
-use Rattle.sequence_paxos.specs.declared.Decision.{Decision}
-use Rattle.sequence_paxos.specs.Decide.{reportOf, broughtBy, handle, resendBy, drained, restarted, taken, outcomeRefusal, settled, decideOf}
+use Rattle.outcome.specs.declared.Decision.{Decision}
+use Rattle.outcome.specs.Outcome.{drained, restarted, outcomeRefusal, settled}
+use Rattle.sequence_paxos.specs.Decide.{reportOf, broughtBy, handle, resendBy, taken, decideOf}
 use Rattle.sequence_paxos.specs.Fit.{fewIn, fitEvent}
 use Rattle.decide_laws.proofs.Grown.{either, InPlace, Goes, goes-none, sentTo, sent-nothing, Rises, Step, Longer, step-none, step-more, step-longer, step-places}
 use Rattle.decide_laws.proofs.Table.{QueuePassed, wouldWait, wouldCarry, outcome, number-is, passed-if-six}

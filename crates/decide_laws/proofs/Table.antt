@@ -9,8 +9,9 @@ use borrow.Author.Tests.{ltb-true, ltb-false, lt-ltb, le-ltb, eq-eqb, ne-eqb, eq
 use Rattle.base.specs.Limits.{maxLog, maxBuffered, maxMessages, maxStore}
 use Rattle.messages.specs.declared.Event.{Event}
 use Rattle.paxos_box.specs.declared.SequencePaxos.{SequencePaxos}
-use Rattle.sequence_paxos.specs.declared.Decision.{Decision}
-use Rattle.sequence_paxos.specs.Decide.{taken, queueRefusal, outcomeRefusal, settled, decideOf}
+use Rattle.outcome.specs.declared.Decision.{Decision}
+use Rattle.outcome.specs.Outcome.{queueRefusal, outcomeRefusal, settled}
+use Rattle.sequence_paxos.specs.Decide.{taken, decideOf}
 use Rattle.decide_laws.proofs.Grown.{either}
 
 -- how many messages and entries the queue would have

@@ -101,7 +101,7 @@ fn step_words(
 {
     let r = node_in(node, row);
     let heads = layout_row::read_row(row);
-    let x = depot::step_row(c, r, heads, log, cached, best, store, book, e, entries);
+    let x = own_row::step(c, r, heads, log, cached, best, store, book, e, entries);
     write_back(node, row, x);
     x.answer
 }

@@ -17,6 +17,8 @@ use Rattle.leader_state.specs.declared.Depot.{Depot}
 use Rattle.leader_state.specs.State.{fresh, setAccepted, noBest}
 use Rattle.leader_state.specs.Places.{chosen}
 use Rattle.leader_state.specs.Promises.{syncStart}
+use Rattle.messages.specs.declared.Event.{Event}
+use Rattle.step.specs.Step.{World, stepOf}
 use Rattle.hire_book.specs.Hire.{total, daysOf, chargesOf}
 use Rattle.hire_book.specs.Book.{bookOf, charged, storedDays}
 
@@ -53,9 +55,9 @@ again = 5127 ∷ 7431 ∷ 7431 ∷ []
 pub record Desk : Type 0 where
   -- majority of 5 is 3, of 2 is 2
   pub p1 : (withOf config.Nothing 5 ≡ Majority 3) × (withOf config.Nothing 2 ≡ Majority 2)
-  -- five depots, read 4 and write 2 stand; read 3 and write 2 do not (and so get 1)
+  -- five depots, read 4 and write 2 stand; read 3 and write 2 get 1, whatever the event and whatever is lent
   pub p2 : standsOf (fiveWith 4 2) ≡ true
-  pub p3 : standsOf (fiveWith 3 2) ≡ false
+  pub p3 : (e : Event) (entries : List ℕ) (w : World) → stepOf (fiveWith 3 2) e entries w .answer .no ≡ 1
   -- at (2, 5)
   pub p4 : statusOf (seq 2 5) (seq 2 6) ≡ Expected
   pub p5 : statusOf (seq 2 5) (seq 2 5) ≡ Outdated

@@ -1,2 +1,3 @@
--- What the desk claims.
+-- What the desk claims, and wrong answers that the promises rule out.
 pub mod Desk
+pub mod Wrong

@@ -29,7 +29,7 @@ use Rattle.record.specs.Record.{loadOf}
 use Rattle.sends.specs.Sends.{peersOf}
 use Rattle.reconnect.specs.Reconnect.{recovering}
 use Rattle.follower.specs.Follower.{startOf, countOf, cachedSource, prepareReqs, resendPromise, resendCached, resendIn, resendMessagesFollower}
-use Rattle.sequence_paxos.specs.Decide.{drained, restarted}
+use Rattle.outcome.specs.Outcome.{drained, restarted}
 use Rattle.broken.specs.Broken.{syncIn as heldIn}
 use Rattle.outgoing.specs.Perform.{sourceOf, performAll}
 use Rattle.views.specs.View.{View, heldEntries, newLog, newBuffered, cachedList, newCached, newBest, newQueue, performView, Counted}

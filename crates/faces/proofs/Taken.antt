@@ -32,7 +32,8 @@ use Rattle.paxos_box.specs.declared.Role.{Role}
 use Rattle.paxos_box.specs.declared.Role.the-variants.{Leader, Follower}
 use Rattle.paxos_box.specs.Box.{isLeader}
 use Rattle.follower.specs.Follower.{countOf}
-use Rattle.sequence_paxos.specs.Decide.{reportOf, broughtBy, handle, resendBy, taken, outcomeRefusal}
+use Rattle.outcome.specs.Outcome.{outcomeRefusal}
+use Rattle.sequence_paxos.specs.Decide.{reportOf, broughtBy, handle, resendBy, taken}
 use Rattle.record.specs.Record.{loadOf}
 use Rattle.outgoing.specs.Queue.{Msg, entriesIn}
 use Rattle.refusals.proofs.Taken.{Sender, MessageFit}

@@ -9,6 +9,7 @@ use lib.Dec.{eqb}
 use lib.ListN.{length}
 use borrow.Author.Tests.{eq-eqb, ne-eqb}
 use Rattle.base.specs.Count.{count, one}
+use Rattle.base.proofs.Meet.{one-le}
 use Rattle.hire_book.specs.Below.{sumBelow}
 use Rattle.hire_book.specs.Hire.{Hire, Pair, daysFrom, pairsOf, pairsOfAll, daysOf, times}
 use Rattle.hire_laws.proofs.Count.{sum-zero, sum-add, sum-one}
@@ -37,10 +38,6 @@ one-and false b = omega arith
 pub one-and-no : (a b : Bool) → b ≡ false → one (a && b) ≡ 0
 one-and-no true b e = rw e
 one-and-no false b e = refl
-
-pub one-le : (a : Bool) → one a ≤ 1
-one-le true = omega arith
-one-le false = omega arith
 
 pub times-le-days : (pump day : ℕ) (l : List Pair) → times pump day l ≤ daysOf pump l
 unfolding count

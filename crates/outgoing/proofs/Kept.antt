@@ -1,16 +1,15 @@
 -- What a plan leaves of the queue: its messages, what lies past them, that it is packed, how many entries it carries, and what holds of each.
-use Prim.Native.Nat.{ℕ, zero, suc, _+_, _-_, _≤_, _<_}
+use Prim.Native.Nat.{ℕ, zero, suc, _+_, _≤_, _<_}
 use mathlib.Core.Path.{_≡_, refl, sym, ap, _∙_}
 use mathlib.Core.Bool.{Bool, true, false, cond}
 use mathlib.Core.List.{List, [], _∷_, _++_, append-nil}
 use native.Mathlib.Omega.{arith}
 use native.Mathlib.Numerals.{add-one}
 use lib.Dec.{eqb, ltb}
-use lib.ListN.{length, getD, set, take, drop, take-append-drop, length-append, length-set, length-take, length-drop, List·getD-append}
-use lib.Seq.{take-take, length-take-le, drop-append-add, drop-drop, take-suc-set, take-set-le, getD-take, getD-append-add}
-use borrow.Author.Tests.{eqb-true, eqb-false, ne-eqb, ltb-true, ltb-false}
+use lib.ListN.{length, getD, set, take, drop, take-append-drop, length-append, length-set, List·getD-append}
+use lib.Seq.{take-take, take-suc-set, getD-append-add}
+use borrow.Author.Tests.{eqb-true, ne-eqb, ltb-true}
 use Rattle.base.specs.Limits.{maxMessages, maxStore}
-use Rattle.base.specs.Lists.{over}
 use Rattle.storage.proofs.Every.{Every, every-none, every-take, every-drop, every-append}
 use Rattle.messages.specs.declared.Head.{Head}
 use Rattle.messages.specs.declared.Row.{Row}
@@ -26,13 +25,17 @@ use Rattle.paxos_box.specs.declared.SequencePaxos.{SequencePaxos}
 use Rattle.paxos_box.specs.Box.{isNew, sending, planned, pushOf}
 use Rattle.outgoing.specs.Queue.{Msg, Lent, lent, headsFrom, entriesIn, queueOf, laid}
 use Rattle.outgoing.specs.Perform.{Sources, sourceOf, entriesOf, joined, raised, onPlace, doneTo, performOne, performAll, performed, itemsOf, newIn, countIn, carried, Sums, placed, Full, none, more, Fits, Inside}
-use Rattle.outgoing.specs.Packing.{Packed, startsFrom}
+use Rattle.outgoing.specs.Packing.{Packed}
 use Rattle.outgoing.proofs.Laid.{laid-queue, laid-packed, past-over, length-heads, entries-append}
 use Rattle.outgoing.proofs.Heads.{front-packed, carried-append}
 use Rattle.outgoing.proofs.Edits.{start-there, end-there}
 use Rattle.outgoing.proofs.Steps.{length-queue, step-longer, all-longer, all-grow, fits-below, fits-entries, laid-carried}
 
--- a plan of nothing, or one that lays the queue down
+-- a plan of nothing leaves row and store alone; any other lays the queue down
+pub performed-none : (f : Sources) (s : Sends) (len : ℕ) (w : Lent) → s .count ≡ 0 → performed f s len w ≡ w
+unfolding performed
+performed-none f s len w h = rw h
+
 performed-is : (f : Sources) (s : Sends) (len : ℕ) (w : Lent) → (s .count ≡ 0 → ⊥) → performed f s len w ≡ laid (performAll f (itemsOf s) (queueOf len w)) w
 unfolding performed
 performed-is f s len w h = rw (ne-eqb (s .count) 0 h)
@@ -50,7 +53,7 @@ no-things s e = rw e
 
 module _ (f : Sources) (s : Sends) (len : ℕ) (row : Row) (store : List ℕ) (p : Fits len s row store) (h : length (row .heads) ≡ maxMessages) where
   -- the queue after the step, as a list of messages
-  after-length : length (performAll f (itemsOf s) (queueOf len (lent row store))) ≡ len + newIn (itemsOf s)
+  pub after-length : length (performAll f (itemsOf s) (queueOf len (lent row store))) ≡ len + newIn (itemsOf s)
   after-length = rw (all-longer f (itemsOf s) (queueOf len (lent row store)), length-queue len (lent row store) (fits-below len s row store p h))
 
   pub queue-after : queueOf (len + newIn (itemsOf s)) (performed f s len (lent row store)) ≡ performAll f (itemsOf s) (queueOf len (lent row store))

@@ -9,7 +9,7 @@ use lib.ListN.{length}
 use borrow.Author.Tests.{eq-eqb, ne-eqb, eqb-true}
 use Rattle.quorum.specs.declared.Configuration.{Configuration}
 use Rattle.messages.specs.declared.Event.{Event}
-use Rattle.sequence_paxos.specs.declared.Decision.{Decision}
+use Rattle.outcome.specs.declared.Decision.{Decision}
 use Rattle.sequence_paxos.specs.Decide.{decideOf}
 use Rattle.decide_laws.proofs.Grown.{either}
 use Rattle.refusals.specs.Refusals.{refusalOf}

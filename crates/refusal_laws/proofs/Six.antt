@@ -1,7 +1,7 @@
 -- A step queues at most six new messages, and one from an empty queue never gets 6.
 use Prim.Native.Nat.{ℕ, _+_, _≤_}
 use mathlib.Core.Path.{_≡_, refl, sym, subst, _∙_}
-use mathlib.Core.Logic.{_⊎_, inl, inr, _≢_}
+use mathlib.Core.Logic.{_≢_}
 use mathlib.Core.Bool.{Bool, true, false}
 use mathlib.Core.List.{List}
 use native.Mathlib.Omega.{arith}
@@ -11,7 +11,6 @@ use borrow.Author.Tests.{eqb-true, eqb-false}
 use Rattle.quorum.specs.declared.Configuration.{Configuration}
 use Rattle.messages.specs.declared.Row.{Row}
 use Rattle.messages.specs.declared.Event.{Event}
-use Rattle.messages.specs.declared.Event.the-variants as event
 use Rattle.decide_laws.proofs.Steps as decides
 use Rattle.hire_book.specs.Below.{sumBelow}
 use Rattle.sight.specs.Sight.{queueEntries}
@@ -22,6 +21,7 @@ use Rattle.refusals.proofs.Sound as refusals
 use Rattle.step.specs.Step.{World, Outcome, boxOf, waiting, performOf, stepOf}
 use Rattle.step_laws.proofs.Fits.{found}
 use Rattle.step_laws.proofs.Outcome.{outcomeOf, Ways, refused, took, ways}
+use Rattle.step_laws.proofs.Whole.{waiting-le}
 use Rattle.refusal_laws.proofs.Ready.{ready}
 use Rattle.refusal_laws.proofs.Number.{number-first, number-decided}
 
@@ -30,22 +30,9 @@ empty-carries : (row : Row) (n : ℕ) → n ≡ 0 → queueEntries row n ≡ 0
 unfolding queueEntries sumBelow
 empty-carries row n q = rw q refl
 
--- a step leaves all that is queued, or nothing
-all-or-none : (e : Event) (n : ℕ) → (waiting e n ≡ n) ⊎ (waiting e n ≡ 0)
-all-or-none (event.Message m) n = inl refl
-all-or-none event.Propose n = inl refl
-all-or-none (event.Leader b) n = inl refl
-all-or-none (event.Reconnect pid) n = inl refl
-all-or-none event.Resend n = inl refl
-all-or-none event.Drain n = inr refl
-all-or-none event.Restart n = inr refl
-
+-- a step leaves at most what is queued, with at most six more
 queued-le : (e : Event) (old new : ℕ) → new ≤ 6 → waiting e (old + new) ≤ old + 6
-queued-le e old new h = by (all-or-none e (old + new))
-  where
-    by : (waiting e (old + new) ≡ old + new) ⊎ (waiting e (old + new) ≡ 0) → waiting e (old + new) ≤ old + 6
-    by (inl q) = omega arith
-    by (inr q) = omega arith
+queued-le e old new h = omega (arith, waiting-le e (old + new))
 
 module _ (c : Configuration) (e : Event) (entries : List ℕ) (w : World) where
   -- all the things that a step plans: at most six, of at most six new messages, each of at most 512 entries

@@ -15,7 +15,7 @@ use Rattle.broken.specs.Broken.{recordBroken}
 use Rattle.refusals.specs.Refusals.{callOff, firstOf, refusalOf}
 
 -- a test cannot both hold and not hold
-clash : {A : Type 0} {b : Bool} → b ≡ true → b ≡ false → A
+pub clash : {A : Type 0} {b : Bool} → b ≡ true → b ≡ false → A
 clash p q = absurd (let w : _≡_ {A = ℕ} 0 1 = cc in omega arith)
 
 -- no test of a row holds

@@ -15,7 +15,7 @@ use Rattle.leader.specs.Leader.{newLeader, ownPromise, becomeLeader, handleLead
 use Rattle.reconnect.specs.Reconnect.{leftLeader, reconnectedOf}
 use Rattle.accepting.specs.Accepting.{sendAccepted, acceptsyncPut, following, acceptsyncTaken, handleAcceptsync, counterAtTop, latestAccepted, replyAccepted, updateDecided, acceptdecideTaken, acceptdecideFit, handleAcceptdecide, decideTaken, handleDecide}
 use Rattle.follower.specs.Follower.{promisedSync, cachePromise, tellPromise, promiseTo, prepareTaken, handlePrepare, resendMessagesFollower}
-use Rattle.sequence_paxos.specs.Decide.{drained, restarted, queueRefusal, outcomeRefusal, settled}
+use Rattle.outcome.specs.Outcome.{drained, restarted, queueRefusal, outcomeRefusal, settled}
 use Rattle.hire_book.specs.Below.{anyBelow, sumBelow}
 use Rattle.hire_book.specs.Book.{entered, applyAll, freshBook, brokenAt, brokenOf, anyAbove}
 use Rattle.sight.specs.Sight.{firstFrom, changesAt, firstChange, accdecAt, accdecMarks, queueEntries}

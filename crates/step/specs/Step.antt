@@ -9,7 +9,7 @@ use Rattle.messages.specs.declared.Event.{Event}
 use Rattle.messages.specs.declared.Event.the-variants as event
 use Rattle.messages.specs.declared.Row.{Row}
 use Rattle.paxos_box.specs.declared.SequencePaxos.{SequencePaxos}
-use Rattle.sequence_paxos.specs.declared.Decision.{Decision}
+use Rattle.outcome.specs.declared.Decision.{Decision}
 use Rattle.sequence_paxos.specs.Decide.{decideOf}
 use Rattle.record.specs.declared.Record.{Record}
 use Rattle.record.specs.Record.{loadOf, storeOf}

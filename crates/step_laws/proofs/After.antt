@@ -45,7 +45,8 @@ use Rattle.step_laws.proofs.Written.{Planned}
 use Rattle.step_laws.proofs.Ballots.{Named}
 use Rattle.step_laws.proofs.Entries.{Best, Cache, none, kept, given, told, SourceOf, SourceFit, BufferFit, Stocked, suffix-in}
 use Rattle.step_laws.proofs.Messages.{Small, all-fit}
-use Rattle.step_laws.proofs.Fits.{Passes, found, ends-within, fits, buffer-fits}
+use Rattle.decide_laws.proofs.Table.{Fits}
+use Rattle.step_laws.proofs.Fits.{found, ends-within, fits, buffer-fits}
 
 -- the arrays of record and row have their lengths (the code's types say so)
 pub record Shape (r : Record) (row : Row) : Type 0 where
@@ -75,7 +76,7 @@ source-fit entries log buffered held found a op f g h m w = by (m .source) (m .c
     by source.Buffered n t = within-part buffered 0 n (λ i l. g i (omega arith))
     by source.Cached n t = within-part held 0 n (λ i l. h (t .0) i (omega (arith, t .1)))
 
-module _ (c : Configuration) (e : Event) (entries : List ℕ) (w : World) (t : Taken c (w .node) (w .row) (w .lists) e entries) (h : Shape (w .node) (w .row)) (s : SequencePaxos) (p : Planned c e entries (found c e entries w) 7 s) (o : Passes s) where
+module _ (c : Configuration) (e : Event) (entries : List ℕ) (w : World) (t : Taken c (w .node) (w .row) (w .lists) e entries) (h : Shape (w .node) (w .row)) (s : SequencePaxos) (p : Planned c e entries (found c e entries w) 7 s) (o : Fits s) where
   -- the log
   cells : endAfter (s .plan .writes .log) (w .node .«internal_storage» .«accepted_idx») ≤ length (w .lists .log)
   cells = omega (arith, ends-within c e entries w t s p o, t .lengths .log)
@@ -182,7 +183,7 @@ module _ (c : Configuration) (e : Event) (entries : List ℕ) (w : World) (t : T
             from (inr l) = (omega (arith, f .1), λ i m. absurd (omega arith))
 
         by : (m : CachedMessage) (op : CachedOp) → Cache 7 (logLength s) (w .node .«cached_promise_message» .message) m op → SyncFit (syncIn m) (cachedAfter op (logOf entries s w) (w .lists .cached))
-        by m op (none q) = subst (λ (z : HeldSync). SyncFit z (cachedAfter op (logOf entries s w) (w .lists .cached))) (sym q) tt
+        by m op (none q r) = subst (λ (z : HeldSync). SyncFit z (cachedAfter op (logOf entries s w) (w .lists .cached))) (sym q) tt
         by m op (kept q r) =
             subst (λ (z : CachedMessage). SyncFit (syncIn z) (cachedAfter op (logOf entries s w) (w .lists .cached))) (sym q)
             (subst (λ (z : CachedOp). SyncFit (syncIn (w .node .«cached_promise_message» .message)) (cachedAfter z (logOf entries s w) (w .lists .cached))) (sym r) (t .whole .cached))

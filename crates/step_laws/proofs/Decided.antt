@@ -25,7 +25,8 @@ use Rattle.refusals.proofs.Taken.{Taken}
 use Rattle.step.specs.Step.{World, boxOf, logOf}
 use Rattle.step_laws.proofs.Log.{put-at-within, op-length}
 use Rattle.step_laws.proofs.Written.{OpFit, Planned}
-use Rattle.step_laws.proofs.Fits.{Passes, found, ends-within}
+use Rattle.decide_laws.proofs.Table.{Fits}
+use Rattle.step_laws.proofs.Fits.{found, ends-within}
 
 -- past a write the list is as found
 put-at-past : (i j : ℕ) (xs l : List ℕ) → i ≤ length l → i + length xs ≤ j → getD (putAt i xs l) j 0 ≡ getD l j 0
@@ -90,7 +91,7 @@ module _ (c : Configuration) (e : Event) (entries : List ℕ) (w : World) (t : T
       let sight : heldChange (w .node .«leader_state» .«max_promise» .sync) l len (w .lists .best) ≡ firstChange l len (x .«sync_idx») (take (x .len) (w .lists .best)) = ap (λ (y : HeldSync). heldChange y l len (w .lists .best)) (o .0) in
       put-stays (x .«sync_idx») old (take (x .len) (w .lists .best)) l (omega (arith, length-take (x .len) (w .lists .best))) (omega (arith, t .whole .decided, t .whole .ends, t .lengths .log)) (before-change l len (x .«sync_idx») (take (x .len) (w .lists .best)) old (omega (arith, o .2, sight)))
 
-  pub log-stays : (s : SequencePaxos) → Planned c e entries (found c e entries w) 7 s → Passes s → take (w .node .«internal_storage» .«decided_idx») (logOf entries s w) ≡ take (w .node .«internal_storage» .«decided_idx») (w .lists .log)
+  pub log-stays : (s : SequencePaxos) → Planned c e entries (found c e entries w) 7 s → Fits s → take (w .node .«internal_storage» .«decided_idx») (logOf entries s w) ≡ take (w .node .«internal_storage» .«decided_idx») (w .lists .log)
   unfolding logOf logAfter boxOf
   log-stays s p o =
       let len = w .node .«internal_storage» .«accepted_idx» in

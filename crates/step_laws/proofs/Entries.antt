@@ -61,9 +61,9 @@ pub data Best (e : Event) (entries : List ℕ) (found sync : HeldSync) (op : Bes
   kept : sync ≡ found → op ≡ best-op.Keep → Best e entries found sync op
   given : (x : LogSync) → sync ≡ held.Held x → op ≡ best-op.Given (x .len) → Brought e entries x → syncEnd x ≤ maxLog → Best e entries found sync op
 
--- the cached promise's sync: none, the one found, or a part of the log, which is as it stays, since something is sent
+-- the cached promise's sync: none, the one found, or a part of the log, which is as it stays, since something is sent; its entries are written then alone
 pub data Cache (k a : ℕ) (found m : CachedMessage) (op : CachedOp) : Type 0 where
-  none : syncIn m ≡ held.Nothing → Cache k a found m op
+  none : syncIn m ≡ held.Nothing → op ≡ cached-op.Keep → Cache k a found m op
   kept : m ≡ found → op ≡ cached-op.Keep → Cache k a found m op
   told : (x : LogSync) → 0 < k → syncIn m ≡ held.Held x → op ≡ cached-op.FromLog x → Tells a (held.Held x) → Cache k a found m op
 
@@ -91,15 +91,20 @@ Stocked c e entries found k s =
     Stocks c e entries found k (s .config) (s .plan .sends) (s .plan .writes) (logLength s) (s .«cached_promise_message» .message) (s .«leader_state» .«max_promise» .sync)
 
 cache-more : (k n a : ℕ) (found m : CachedMessage) (op : CachedOp) → k ≤ n → Cache k a found m op → Cache n a found m op
-cache-more k n a found m op h (none q) = none q
+cache-more k n a found m op h (none q r) = none q r
 cache-more k n a found m op h (kept q r) = kept q r
 cache-more k n a found m op h (told x z q r t) = told x (omega arith) q r t
 
 -- where nothing is sent yet, the log may still change
 cache-any : (a b : ℕ) (found m : CachedMessage) (op : CachedOp) → Cache 0 a found m op → Cache 0 b found m op
-cache-any a b found m op (none q) = none q
+cache-any a b found m op (none q r) = none q r
 cache-any a b found m op (kept q r) = kept q r
 cache-any a b found m op (told x z q r t) = absurd (omega arith)
+
+pub unsaid : (a : ℕ) (found m : CachedMessage) (op : CachedOp) → Cache 0 a found m op → op ≡ cached-op.Keep
+unsaid a found m op (none q r) = r
+unsaid a found m op (kept q r) = r
+unsaid a found m op (told x z q r t) = absurd (omega arith)
 
 -- the log from a place on
 pub suffix-in : (len from : ℕ) → (from + suffixLength len from ≤ len) ⊎ (suffixLength len from ≡ 0)
@@ -143,7 +148,7 @@ module _ (c : Configuration) (e : Event) (entries : List ℕ) (found : SequenceP
 
   -- the cached promise: forgotten; or told, a part of the log
   forget : (s : SequencePaxos) → Stocked c e entries found 0 s → Stocked c e entries found 0 (setCached cached.Nothing s)
-  forget s p = record { config = p .config; things = p .things; buffer = p .buffer; best = p .best; cached = none refl; items = p .items }
+  forget s p = record { config = p .config; things = p .things; buffer = p .buffer; best = p .best; cached = none refl (unsaid _ _ _ _ (p .cached)); items = p .items }
 
   tell : (to : ℕ) (x : HeldSync) (s : SequencePaxos) → Tells (logLength s) x → Stocked c e entries found 0 s → Stocked c e entries found 1 (sendPromise to (promiseOf x s) (logSource x) (cachePromise x s))
   unfolding cachePromise
@@ -153,14 +158,14 @@ module _ (c : Configuration) (e : Event) (entries : List ℕ) (found : SequenceP
     where
       by : (x : HeldSync) → Tells (logLength s) x → Cache 1 (logLength s) (found .«cached_promise_message» .message) (cached.Held (promiseOf x s)) (keptSync x)
       by (held.Held y) t = told y (omega arith) refl refl t
-      by held.Nothing t = none refl
+      by held.Nothing t = none refl refl
 
       from : (x : HeldSync) → Tells (logLength s) x → SourceOf entries found (logLength s) (keptSync x) (logSource x) (countOf x)
       from (held.Held y) t = rw (t .0) (suffix-in (logLength s) (y .«sync_idx»))
       from held.Nothing t = tt
 
   again : (p : CachedPromise) (m : CachedMessage) (a : ℕ) (op : CachedOp) → m ≡ cached.Held p → op ≡ cached-op.Keep → Cache 0 a (found .«cached_promise_message» .message) m op → SourceOf entries found a op (cachedSource (p .sync)) (countOf (p .sync))
-  again p m a op h o (none q) = by (p .sync) (ap syncIn (sym h) ∙ q)
+  again p m a op h o (none q r) = by (p .sync) (ap syncIn (sym h) ∙ q)
     where
       by : (y : HeldSync) → y ≡ held.Nothing → SourceOf entries found a op (cachedSource y) (countOf y)
       by y r = subst (λ (z : HeldSync). SourceOf entries found a op (cachedSource z) (countOf z)) (sym r) tt

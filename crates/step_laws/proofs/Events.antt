@@ -36,7 +36,7 @@ real c n d = (by (eqb (n .n) 0) (eqb (n .priority) 0), d)
     by true false = refl
     by false b = refl
 
-arrives : (e : Event) (entries : List ℕ) (x : PromiseSync) → brought e ≡ x → Brings x entries → Arrives e entries (broughtBy x (length entries))
+pub arrives : (e : Event) (entries : List ℕ) (x : PromiseSync) → brought e ≡ x → Brings x entries → Arrives e entries (broughtBy x (length entries))
 arrives e entries sync.Nothing p b = tt
 arrives e entries (sync.From start) p b = record { start = p; count = refl; fit = b .1 }
 

@@ -2,13 +2,11 @@
 use Prim.Native.Nat.{ℕ, _+_, _≤_}
 use mathlib.Core.Path.{_≡_, refl, ap}
 use mathlib.Core.Logic.{_⊎_, inl, inr}
-use mathlib.Core.Bool.{Bool, true, false, cond}
+use mathlib.Core.Bool.{false}
 use mathlib.Core.List.{List}
 use native.Mathlib.Omega.{arith}
-use lib.Dec.{ltb}
 use lib.ListN.{length, take}
-use borrow.Author.Tests.{ltb-false}
-use Rattle.base.specs.Limits.{maxLog, maxBuffered, maxMessages, maxStore}
+use Rattle.base.specs.Limits.{maxLog, maxBuffered}
 use Rattle.quorum.specs.declared.Configuration.{Configuration}
 use Rattle.quorum.proofs.Laws.{Stands}
 use Rattle.leader_state.specs.declared.HeldSync.{HeldSync}
@@ -24,7 +22,8 @@ use Rattle.paxos_box.specs.declared.Outgoing.{Outgoing}
 use Rattle.paxos_box.specs.declared.CachedMessage.{CachedMessage}
 use Rattle.paxos_box.specs.declared.CachedMessage.the-variants as cached
 use Rattle.follower.specs.Follower.{countOf, fewCached}
-use Rattle.sequence_paxos.specs.Decide.{taken, drained, restarted, queueRefusal, outcomeRefusal}
+use Rattle.outcome.specs.Outcome.{drained, restarted, outcomeRefusal}
+use Rattle.sequence_paxos.specs.Decide.{taken}
 use Rattle.sequence_paxos.specs.Fit.{Sound, fewIn, fitEvent}
 use Rattle.record.specs.declared.Record.{Record}
 use Rattle.hire_book.specs.Book.{anyAbove}
@@ -38,6 +37,7 @@ use Rattle.outgoing.specs.Perform as perform
 use Rattle.outgoing.proofs.Kept.{fits-sums}
 use Rattle.step.specs.Step.{World, boxOf, logOf}
 use Rattle.step.specs.Writable.{Writable}
+use Rattle.decide_laws.proofs.Table.{Fits, fits-if-taken, exactly}
 use Rattle.step_laws.proofs.Moves.{Found}
 use Rattle.step_laws.proofs.Events.{Queues, along-event}
 use Rattle.step_laws.proofs.Written.{Planned, planned-closed}
@@ -87,30 +87,9 @@ sound c r row l e entries t = (
   fit-event c e entries (t .stands) (t .event),
 )
 
--- Refusals 4, 7, 5, 8 and 6 are not given
-
-pub record Passes (s : SequencePaxos) : Type 0 where
-  pub fit : s .plan .unfit ≡ false
-  pub below : s .plan .top ≡ false
-  pub log : s .«internal_storage» .«accepted_idx» ≤ maxLog
-  pub buffer : s .«buffered_proposals» ≤ maxBuffered
-  pub messages : s .outgoing .len + s .plan .sends .messages ≤ maxMessages
-  pub entries : s .outgoing .entries + s .plan .sends .entries ≤ maxStore
-
-pub passes : (s : SequencePaxos) → outcomeRefusal s ≡ 0 → Passes s
-unfolding outcomeRefusal queueRefusal
-passes s z =
-    let a = next (s .plan .unfit) 3 _ z in
-    let b = next (s .plan .top) 6 _ (a .1) in
-    let c = next (ltb maxLog (s .«internal_storage» .«accepted_idx»)) 4 _ (b .1) in
-    let d = next (ltb maxBuffered (s .«buffered_proposals»)) 7 _ (c .1) in
-    let e = next (ltb maxMessages (s .outgoing .len + s .plan .sends .messages)) 5 _ (d .1) in
-    let f = next (ltb maxStore (s .outgoing .entries + s .plan .sends .entries)) 5 0 (e .1) in
-    record { fit = a .0; below = b .0; log = ltb-false _ _ (c .0); buffer = ltb-false _ _ (d .0); messages = ltb-false _ _ (e .0); entries = ltb-false _ _ (f .0) }
-  where
-    next : (t : Bool) (n rest : ℕ) → cond t (n + 1) rest ≡ 0 → (t ≡ false) × (rest ≡ 0)
-    next true n rest h = absurd (omega arith)
-    next false n rest h = (refl, h)
+-- refusals 4, 7, 5, 8 and 6 are not given
+pub passes : (s : SequencePaxos) → outcomeRefusal s ≡ 0 → Fits s
+passes s z = fits-if-taken 0 s refl (exactly 0 s .0 z)
 
 -- the box that a step finds
 abbrev pub found : Configuration → Event → List ℕ → World → SequencePaxos
@@ -172,7 +151,7 @@ planned-taken c e entries w t = by e t
     by event.Restart t = restarted-plans c entries (found c event.Restart entries w) (found c event.Restart entries w) (ap bufferCount (as-found c event.Restart entries w t .writes .buffer)) (nothing-planned c event.Restart entries w t)
 
 -- what a step that is not refused writes fits
-module _ (c : Configuration) (e : Event) (entries : List ℕ) (w : World) (t : Taken c (w .node) (w .row) (w .lists) e entries) (s : SequencePaxos) (p : Planned c e entries (found c e entries w) 7 s) (o : Passes s) where
+module _ (c : Configuration) (e : Event) (entries : List ℕ) (w : World) (t : Taken c (w .node) (w .row) (w .lists) e entries) (s : SequencePaxos) (p : Planned c e entries (found c e entries w) 7 s) (o : Fits s) where
   pub ends-within : endAfter (s .plan .writes .log) (w .node .«internal_storage» .«accepted_idx») + s .plan .writes .buffered ≤ maxLog
   unfolding boxOf
   ends-within = omega (arith, p .ends, o .log)

@@ -6,7 +6,7 @@ use mathlib.Core.List.{List}
 use native.Mathlib.Omega.{arith}
 use lib.Dec.{ltb, eqb}
 use lib.ListN.{length}
-use borrow.Author.Tests.{ltb-true, ltb-false, eqb-true}
+use borrow.Author.Tests.{ltb-false, eqb-true}
 use Rattle.ballot.specs.Ballot.{above, same}
 use Rattle.ballot.specs.declared.Ballot.{Ballot}
 use Rattle.ballot.proofs.Laws.{same-eq}
@@ -19,11 +19,10 @@ use Rattle.leader_state.specs.declared.PromiseState.the-variants.{NotPromised, 
 use Rattle.leader_state.specs.declared.Latest.the-variants as latest
 use Rattle.leader_state.specs.State.{withOf, setAccepted, setPromiseState, setLatest}
 use Rattle.leader_state.specs.Promises.{beatsBest, maxDecided}
-use Rattle.leader_state.specs.Places.{chosen, promisedFollowers, preparablePeers}
+use Rattle.leader_state.specs.Places.{promisedFollowers, preparablePeers}
 use Rattle.messages.specs.declared.Event.{Event}
 use Rattle.paxos_box.specs.declared.SequencePaxos.{SequencePaxos}
-use Rattle.paxos_box.specs.declared.Role.{Role}
-use Rattle.paxos_box.specs.declared.Role.the-variants.{Leader, Follower}
+use Rattle.paxos_box.specs.declared.Role.the-variants.{Leader}
 use Rattle.paxos_box.specs.declared.Phase.{Phase}
 use Rattle.paxos_box.specs.declared.Phase.the-variants as phase
 use Rattle.paxos_box.specs.declared.Standing.{Standing}
@@ -41,26 +40,9 @@ use Rattle.leader.specs.Leader.{forFollowers, keepPromise, reached, newLeader, 
 use Rattle.refusals.proofs.Taken.{Depot, Known, Real, Fit}
 use Rattle.decide_laws.proofs.Grown.{either}
 use Rattle.decide_laws.proofs.Log.{PutFits, put-fits}
+use Rattle.decide_laws.proofs.Leader.{Leads, leads, above-decided}
 use Rattle.step_laws.proofs.Moves.{Brought, Holds, Closed, Found}
 use Rattle.step_laws.proofs.Sends.{mild-forget, mild-accepted, mild-promise, along-sync-to, along-marked}
-
--- what is known of a Leader, by where the box stands
-abbrev pub Leads : Standing → Type 0 → Type 0
-Leads LeaderPrepare P = P
-Leads LeaderAccept P = P
-Leads FollowerPrepare P = Unit {0}
-Leads FollowerAccept P = Unit {0}
-Leads Other P = Unit {0}
-
-leads : (r : Role) (p : Phase) → Leads (standingOf r p) (isLeader r ≡ true)
-leads Leader phase.Prepare = refl
-leads Leader phase.Accept = refl
-leads Leader phase.Recover = tt
-leads Leader phase.None = tt
-leads Follower phase.Prepare = tt
-leads Follower phase.Accept = tt
-leads Follower phase.Recover = tt
-leads Follower phase.None = tt
 
 -- the sync of the best promise: the one brought, where this Promise beats the best, else the one that is held
 abbrev pub BestSync : Event → List ℕ → SequencePaxos → HeldSync → Bool → Type 0
@@ -79,15 +61,6 @@ Arrives e entries (Held x) = Brought e entries x
 holds : (e : Event) (entries : List ℕ) (x : HeldSync) → Arrives e entries x → bringsPast x ≡ false → Holds e entries x
 holds e entries Nothing a b = tt
 holds e entries (Held x) a b = (a, ends-within x b)
-
--- an index newly chosen is above the decided one
-newly-above : (idx : ℕ) (s : SequencePaxos) → newlyChosen idx s ≡ true → s .«internal_storage» .«decided_idx» ≤ idx
-unfolding newlyChosen
-newly-above idx s a = let m = ltb-true (s .«internal_storage» .«decided_idx») idx (first (ltb (s .«internal_storage» .«decided_idx») idx) (chosen idx (s .config) (s .«leader_state»)) a) in omega arith
-  where
-    first : (a b : Bool) → cond a b false ≡ true → a ≡ true
-    first true b e = refl
-    first false b e = e
 
 module _ (c : Configuration) (e : Event) (entries : List ℕ) (s : SequencePaxos) (I : ℕ → SequencePaxos → Type 0) (o : Closed c e entries s I) (f : Found c s) (i : I 0 s) where
   stay : (k : ℕ) → I k s
@@ -242,7 +215,7 @@ module _ (c : Configuration) (e : Event) (entries : List ℕ) (s : SequencePaxos
   unfolding handlePromise
   along-promise n m x real d known a =
       either (I 7) (same n (s .«leader_state» .«n_leader»)) (promiseIn (standingOf (s .state .role) (s .state .phase)) m x s) s
-      (λ q. by (rw (same-eq n (s .«leader_state» .«n_leader») q) at real) (standingOf (s .state .role) (s .state .phase)) (leads (s .state .role) (s .state .phase)))
+      (λ q. by (rw (same-eq n (s .«leader_state» .«n_leader») q) at real) (standingOf (s .state .role) (s .state .phase)) (leads (s .state .role) (s .state .phase) (isLeader (s .state .role) ≡ true) (λ l. ap isLeader l)))
       (λ q. stay 7)
     where
       by : Real c (s .«leader_state» .«n_leader») → (t : Standing) → Leads t (isLeader (s .state .role) ≡ true) → I 7 (promiseIn t m x s)
@@ -260,7 +233,7 @@ module _ (c : Configuration) (e : Event) (entries : List ℕ) (s : SequencePaxos
   along-chosen idx t z j l =
       let u = setDecided idx t in
       either (I 7) (newlyChosen idx t) (forFollowers each.Decide u) t
-      (λ a. along-marked c e entries s I o (promisedFollowers (u .config .depots) (u .«leader_state»)) each.Decide u (f .depots) tt (o .decides 0 idx t z (newly-above idx t a) l j))
+      (λ a. along-marked c e entries s I o (promisedFollowers (u .config .depots) (u .«leader_state»)) each.Decide u (f .depots) tt (o .decides 0 idx t z (omega (arith, above-decided idx t a)) l j))
       (λ a. o .more 0 7 t (omega arith) j)
 
   along-accepted-taken : (idx from : ℕ) → Depot c from → I 7 (acceptedTaken idx from s)

@@ -1,23 +1,24 @@
 -- The two ways of a step: refused with a number, everything as found; or taken, with all that no refusal leaves.
-use Prim.Native.Nat.{ℕ, _+_, _≤_}
+use Prim.Native.Nat.{ℕ, _≤_}
 use mathlib.Core.Path.{_≡_, refl, ap, _∙_}
 use mathlib.Core.Logic.{_⊎_, inl, inr}
 use mathlib.Core.Bool.{Bool, true, false, cond}
 use mathlib.Core.List.{List}
 use native.Mathlib.Omega.{arith}
-use lib.Dec.{eqb, ltb}
+use lib.Dec.{eqb}
 use lib.ListN.{length}
 use borrow.Author.Tests.{eqb-true, eqb-false, ne-eqb}
-use Rattle.base.specs.Limits.{maxLog, maxBuffered, maxMessages, maxStore}
 use Rattle.quorum.specs.declared.Configuration.{Configuration}
 use Rattle.messages.specs.declared.Event.{Event}
 use Rattle.paxos_box.specs.declared.SequencePaxos.{SequencePaxos}
-use Rattle.sequence_paxos.specs.declared.Decision.{Decision}
-use Rattle.sequence_paxos.specs.Decide.{taken, queueRefusal, outcomeRefusal, settled}
+use Rattle.outcome.specs.declared.Decision.{Decision}
+use Rattle.outcome.specs.Outcome.{outcomeRefusal, settled}
+use Rattle.sequence_paxos.specs.Decide.{taken}
 use Rattle.refusals.specs.Refusals.{refusalOf}
 use Rattle.refusals.proofs.Exactly.{one-of-five}
 use Rattle.refusals.proofs.Taken.{Taken}
 use Rattle.refusals.proofs.Sound as refusals
+use Rattle.decide_laws.proofs.Table.{Given, is-unfit, at-top, past-log, past-buffer, past-queue, all-fit, outcome}
 use Rattle.step.specs.Step.{World, decisionOf, refusedWith, takenTo, concluded, stepOf}
 use Rattle.step_laws.proofs.Fits.{found}
 
@@ -47,17 +48,15 @@ pub record Later (n : ℕ) : Type 0 where
   pub least : (n ≡ 0 → ⊥) → 4 ≤ n
 
 pub outcome-later : (s : SequencePaxos) → Later (outcomeRefusal s)
-unfolding outcomeRefusal queueRefusal
-outcome-later s = go (s .plan .unfit) (s .plan .top) (ltb maxLog (s .«internal_storage» .«accepted_idx»)) (ltb maxBuffered (s .«buffered_proposals»)) (ltb maxMessages (s .outgoing .len + s .plan .sends .messages)) (ltb maxStore (s .outgoing .entries + s .plan .sends .entries))
+outcome-later s = by (outcomeRefusal s) (outcome s)
   where
-    go : (a b c d e f : Bool) → Later (cond a 4 (cond b 7 (cond c 5 (cond d 8 (cond e 6 (cond f 6 0))))))
-    go true b c d e f = record { most = omega arith; least = λ z. omega arith }
-    go false true c d e f = record { most = omega arith; least = λ z. omega arith }
-    go false false true d e f = record { most = omega arith; least = λ z. omega arith }
-    go false false false true e f = record { most = omega arith; least = λ z. omega arith }
-    go false false false false true f = record { most = omega arith; least = λ z. omega arith }
-    go false false false false false true = record { most = omega arith; least = λ z. omega arith }
-    go false false false false false false = record { most = omega arith; least = λ z. absurd (z refl) }
+    by : (n : ℕ) → Given s n → Later n
+    by n (is-unfit u) = record { most = omega arith; least = λ z. omega arith }
+    by n (at-top u t) = record { most = omega arith; least = λ z. omega arith }
+    by n (past-log u t l) = record { most = omega arith; least = λ z. omega arith }
+    by n (past-buffer u t l b) = record { most = omega arith; least = λ z. omega arith }
+    by n (past-queue u t l b q) = record { most = omega arith; least = λ z. omega arith }
+    by n (all-fit f) = record { most = omega arith; least = λ z. absurd (z refl) }
 
 -- a decision that settles on the step, and one that refuses it
 decided-yes : (e : Event) (entries : List ℕ) (d : Decision) (s : SequencePaxos) (w : World) → d ≡ record { no = 0; node = s } → concluded e entries d w ≡ takenTo e entries s w

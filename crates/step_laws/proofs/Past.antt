@@ -28,7 +28,8 @@ use Rattle.log_plan.specs.Log.{syncLog, appendGiven, appendBuffered, bufferGive
 use Rattle.leader.specs.Leader.{keepPromise, ownPromise, ownMeta, keepSync}
 use Rattle.accepting.specs.Accepting.{sendAccepted}
 use Rattle.follower.specs.Follower.{cachePromise}
-use Rattle.sequence_paxos.specs.Decide.{taken, drained, restarted}
+use Rattle.outcome.specs.Outcome.{drained, restarted}
+use Rattle.sequence_paxos.specs.Decide.{taken}
 use Rattle.refusals.proofs.Taken.{Depot, Taken}
 use Rattle.step.specs.Step.{World, boxOf}
 use Rattle.decide_laws.proofs.Grown.{either}

@@ -23,8 +23,8 @@ use Rattle.broken.specs.Lent as broken
 use Rattle.outgoing.specs.Queue.{Lent, lent, msgOf, queueOf, laid}
 use Rattle.outgoing.specs.Perform.{Sources, entriesOf, performAll, performed, itemsOf, newIn, carried, Fits}
 use Rattle.outgoing.specs.Packing.{Packed}
-use Rattle.outgoing.proofs.Steps.{length-queue, laid-sizes, all-longer, fits-below}
-use Rattle.outgoing.proofs.Kept.{queue-after, entries-after, packed-after, packed-inside, packed-apart}
+use Rattle.outgoing.proofs.Steps.{laid-sizes}
+use Rattle.outgoing.proofs.Kept.{performed-none, after-length, queue-after, entries-after, packed-after, packed-inside, packed-apart}
 use Rattle.refusals.proofs.Taken.{Apart, HeadFit, Whole}
 use Rattle.decide_laws.proofs.Grown.{either}
 use Rattle.step_laws.proofs.Plan.{Each, each-of, each-at}
@@ -71,21 +71,12 @@ packed-lies n row store e p =
     }
 
 module _ (f : Sources) (x : Sends) (len : ℕ) (row : Row) (store : List ℕ) (p : Fits len x row store) (h : length (row .heads) ≡ maxMessages) where
-  -- how many messages wait
-  after-length : length (performAll f (itemsOf x) (queueOf len (lent row store))) ≡ len + newIn (itemsOf x)
-  after-length = rw (all-longer f (itemsOf x) (queueOf len (lent row store)), length-queue len (lent row store) (fits-below len x row store p h))
-
   pub sizes-after : (length (performed f x len (lent row store) .row .heads) ≡ maxMessages) × (length (performed f x len (lent row store) .store) ≡ maxStore)
   unfolding performed
   sizes-after =
       either (λ (v : Lent). (length (v .row .heads) ≡ maxMessages) × (length (v .store) ≡ maxStore)) (eqb (x .count) 0) (lent row store) (laid (performAll f (itemsOf x) (queueOf len (lent row store))) (lent row store))
       (λ e. (h, p .size))
-      (λ e. let s = laid-sizes (performAll f (itemsOf x) (queueOf len (lent row store))) (lent row store) (omega (arith, after-length, p .messages, h)) (omega (arith, entries-after f x len row store p h, p .size)) in (s .0 ∙ h, s .1 ∙ p .size))
-
-  -- a plan of nothing leaves it
-  kept-after : x .count ≡ 0 → performed f x len (lent row store) ≡ lent row store
-  unfolding performed
-  kept-after e = rw e
+      (λ e. let s = laid-sizes (performAll f (itemsOf x) (queueOf len (lent row store))) (lent row store) (omega (arith, after-length f x len row store p h, p .messages, h)) (omega (arith, entries-after f x len row store p h, p .size)) in (s .0 ∙ h, s .1 ∙ p .size))
 
   none-new : x .count ≡ 0 → len + newIn (itemsOf x) ≡ len
   unfolding newIn
@@ -97,7 +88,7 @@ module _ (f : Sources) (x : Sends) (len : ℕ) (row : Row) (store : List ℕ) (p
       by : (t : Bool) → eqb (x .count) 0 ≡ t → Lies (len + newIn (itemsOf x)) (performed f x len (lent row store) .row)
       by true e =
           let z = eqb-true (x .count) 0 e in
-          subst (λ (n : ℕ). Lies n (performed f x len (lent row store) .row)) (sym (none-new z)) (subst (λ (v : Lent). Lies len (v .row)) (sym (kept-after z)) l)
+          subst (λ (n : ℕ). Lies n (performed f x len (lent row store) .row)) (sym (none-new z)) (subst (λ (v : Lent). Lies len (v .row)) (sym (performed-none f x len (lent row store) z)) l)
       by false e = packed-lies (len + newIn (itemsOf x)) (performed f x len (lent row store) .row) (performed f x len (lent row store) .store) (sizes-after .1) (packed-after f x len row store p h (eqb-false (x .count) 0 e))
 
 module _ (c : Configuration) (f : Sources) (x : Sends) (len : ℕ) (row : Row) (store : List ℕ) (p : Fits len x row store) (h : length (row .heads) ≡ maxMessages) where

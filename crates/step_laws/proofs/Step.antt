@@ -23,7 +23,8 @@ use Rattle.refusals.proofs.Fresh as never-ran
 use Rattle.step.specs.Step.{World, world, Outcome, boxOf, logOf, isRestart, newlyDecided, bookAfter, performOf, stepOf}
 use Rattle.decide_laws.proofs.Grown.{either}
 use Rattle.step_laws.proofs.Written.{Planned}
-use Rattle.step_laws.proofs.Fits.{Passes, passes, found, planned-taken}
+use Rattle.decide_laws.proofs.Table.{Fits}
+use Rattle.step_laws.proofs.Fits.{passes, found, planned-taken}
 use Rattle.step_laws.proofs.Outcome.{outcomeOf, Ways, refused, took, ways, gives-le}
 use Rattle.step_laws.proofs.Past.{AsFound, past-taken}
 use Rattle.step_laws.proofs.Decided.{log-stays}
@@ -54,7 +55,7 @@ numbers c e entries w = by (ways c e entries w)
 by-ways :
     (c : Configuration) (e : Event) (entries : List ℕ) (w : World) (P : World → Type 0)
     → P w
-    → (Taken c (w .node) (w .row) (w .lists) e entries → Planned c e entries (found c e entries w) 7 (outcomeOf c e entries w) → Passes (outcomeOf c e entries w) → P (performOf e entries (outcomeOf c e entries w) w))
+    → (Taken c (w .node) (w .row) (w .lists) e entries → Planned c e entries (found c e entries w) 7 (outcomeOf c e entries w) → Fits (outcomeOf c e entries w) → P (performOf e entries (outcomeOf c e entries w) w))
     → P (stepOf c e entries w .after)
 by-ways c e entries w P a b = by (ways c e entries w)
   where
@@ -93,7 +94,7 @@ book-more old new log l h q =
     rw (b, apply-append (take old log) (take (new - old) (drop old log)) freshBook, q)
 
 module _ (c : Configuration) (e : Event) (entries : List ℕ) (w : World) where
-  book-performed : (Kept w ⊎ (isRestart e ≡ true)) → Taken c (w .node) (w .row) (w .lists) e entries → Planned c e entries (found c e entries w) 7 (outcomeOf c e entries w) → Passes (outcomeOf c e entries w) → Kept (performOf e entries (outcomeOf c e entries w) w)
+  book-performed : (Kept w ⊎ (isRestart e ≡ true)) → Taken c (w .node) (w .row) (w .lists) e entries → Planned c e entries (found c e entries w) 7 (outcomeOf c e entries w) → Fits (outcomeOf c e entries w) → Kept (performOf e entries (outcomeOf c e entries w) w)
   unfolding performOf bookAfter boxOf
   book-performed k t p o =
       let s = outcomeOf c e entries w in

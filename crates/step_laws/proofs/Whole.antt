@@ -2,7 +2,7 @@
 use Prim.Native.Nat.{ℕ, _+_, _-_, _≤_, _<_}
 use mathlib.Core.Path.{_≡_, refl, ap, sym, subst, _∙_}
 use mathlib.Core.Logic.{inl, inr}
-use mathlib.Core.Bool.{Bool, true, false}
+use mathlib.Core.Bool.{false}
 use mathlib.Core.List.{List}
 use native.Mathlib.Omega.{arith}
 use lib.ListN.{length}
@@ -19,14 +19,14 @@ use Rattle.paxos_box.specs.declared.SequencePaxos.{SequencePaxos}
 use Rattle.paxos_box.specs.declared.Outgoing.{Outgoing}
 use Rattle.paxos_box.specs.declared.AcceptedMeta.{AcceptedMeta}
 use Rattle.paxos_box.specs.declared.AcceptedMeta.the-variants as meta
-use Rattle.sequence_paxos.specs.Decide.{drained, restarted, outcomeRefusal}
+use Rattle.outcome.specs.Outcome.{drained, restarted, outcomeRefusal}
 use Rattle.hire_book.specs.Book.{bookLength}
 use Rattle.sight.specs.Sight.{headAt, queueEntries}
 use Rattle.sight.proofs.Sums.{sum-part}
 use Rattle.broken.specs.Lent.{Lent}
 use Rattle.broken.specs.Broken.{recordBroken}
 use Rattle.refusals.specs.Refusals.{lengthsOff, wrongCall, callOff}
-use Rattle.refusals.proofs.Exactly.{refused-1, refused-2}
+use Rattle.refusals.proofs.Exactly.{clash, refused-1, refused-2}
 use Rattle.refusals.proofs.Taken.{Depot, LatestBelow, PromiseFit, MetaFit, Lengths, Whole, Taken}
 use Rattle.step.specs.Step.{World, Outcome, boxOf, queueOf, waiting, performOf, stepOf}
 use Rattle.step_laws.proofs.Plan.{none, first-place}
@@ -36,7 +36,8 @@ use Rattle.step_laws.proofs.Positions.{MetaBelow, Below, Positioned, po
 use Rattle.step_laws.proofs.Ballots.{MetaKnown, Named, default-known, ballots-closed}
 use Rattle.step_laws.proofs.Entries as entry
 use Rattle.step_laws.proofs.Entries.{Stocked, entries-closed}
-use Rattle.step_laws.proofs.Fits.{Passes, passes, found, as-found, planned-taken}
+use Rattle.decide_laws.proofs.Table.{Fits}
+use Rattle.step_laws.proofs.Fits.{passes, found, as-found, planned-taken}
 use Rattle.step_laws.proofs.Unbroken.{whole-unbroken}
 use Rattle.step_laws.proofs.After.{Shape, log-length, log-fit, book-stands, buffer-length, buffer-fit, best-length, best-fit, cached-length, cached-fit, messages-fit, queue-lies, queue-sizes}
 use Rattle.step_laws.proofs.Outcome.{outcomeOf, Gives, Ways, refused, took, outcome-later, ways}
@@ -137,7 +138,7 @@ stocked-drained c entries f s p = entries-closed c event.Drain entries f .more 0
 stocked-restarted : (c : Configuration) (entries : List ℕ) (f s : SequencePaxos) → Stocked c event.Restart entries f 0 s → Stocked c event.Restart entries f 7 (restarted s)
 unfolding restarted withOf
 stocked-restarted c entries f s p =
-    record { config = p .config; things = omega (arith, p .things); buffer = p .buffer; best = entry.none refl; cached = entry.none refl; items = p .items }
+    record { config = p .config; things = omega (arith, p .things); buffer = p .buffer; best = entry.none refl; cached = entry.none refl (entry.unsaid _ _ _ _ (p .cached)); items = p .items }
 
 -- of every step: what is named, what is stocked, where positions lie
 pub record Leaves (c : Configuration) (e : Event) (entries : List ℕ) (f s : SequencePaxos) : Type 0 where
@@ -184,7 +185,7 @@ module _ (c : Configuration) (entries : List ℕ) (w : World) where
           record { named = named-restarted c f n; stocked = stocked-restarted c entries f f (stocked-found c event.Restart entries w t); below = below-restarted c f (n .config) }
 
 -- no more wait than are in the queue
-waiting-le : (e : Event) (n : ℕ) → waiting e n ≤ n
+pub waiting-le : (e : Event) (n : ℕ) → waiting e n ≤ n
 waiting-le (event.Message m) n = omega arith
 waiting-le event.Propose n = omega arith
 waiting-le (event.Leader b) n = omega arith
@@ -193,7 +194,7 @@ waiting-le event.Resend n = omega arith
 waiting-le event.Drain n = omega arith
 waiting-le event.Restart n = omega arith
 
-module _ (c : Configuration) (e : Event) (entries : List ℕ) (w : World) (t : Taken c (w .node) (w .row) (w .lists) e entries) (h : Shape (w .node) (w .row)) (s : SequencePaxos) (p : Planned c e entries (found c e entries w) 7 s) (o : Passes s) (v : Leaves c e entries (found c e entries w) s) where
+module _ (c : Configuration) (e : Event) (entries : List ℕ) (w : World) (t : Taken c (w .node) (w .row) (w .lists) e entries) (h : Shape (w .node) (w .row)) (s : SequencePaxos) (p : Planned c e entries (found c e entries w) 7 s) (o : Fits s) (v : Leaves c e entries (found c e entries w) s) where
   fewer : waiting e (w .node .outgoing + s .plan .sends .messages) ≤ w .node .outgoing + s .plan .sends .messages
   fewer = waiting-le e (w .node .outgoing + s .plan .sends .messages)
 
@@ -252,10 +253,6 @@ pub not-off : (c : Configuration) (l : Lent) → Stands c → Lengths l → call
 unfolding wrongCall lengthsOff
 not-off c l s n = rw (says-stands c s, eq-eqb (length (l .log)) maxLog (n .log), eq-eqb (length (l .cached)) maxLog (n .cached), eq-eqb (length (l .best)) maxLog (n .best), eq-eqb (length (l .store)) maxStore (n .store), eq-eqb (length (l .book)) bookLength (n .book))
 
--- a test cannot both hold and not hold
-clash : (b : Bool) → b ≡ true → b ≡ false → ⊥
-clash b p q = absurd (let z : _≡_ {A = ℕ} 0 1 = cc in omega arith)
-
 -- a world to which neither refusal 1 nor refusal 2 is given
 pub record Stays (c : Configuration) (w : World) : Type 0 where
   pub lengths : Lengths (w .lists)
@@ -297,8 +294,8 @@ never-broken c e entries w v = by (ways c e entries w)
   where
     given : (n : ℕ) → (n ≡ 0 → ⊥) → Gives c e entries w n → (n ≡ 1 → ⊥) × (n ≡ 2 → ⊥)
     given n d (inl g) = (
-      (λ q. clash (callOff c (w .lists)) (refused-1 c (w .node) (w .row) (w .lists) e entries .0 (g ∙ q)) (v .call)),
-      (λ q. clash (recordBroken c (w .node) (w .row) (w .lists)) (refused-2 c (w .node) (w .row) (w .lists) e entries .0 (g ∙ q) .1) (v .record-stands)),
+      (λ q. clash (refused-1 c (w .node) (w .row) (w .lists) e entries .0 (g ∙ q)) (v .call)),
+      (λ q. clash (refused-2 c (w .node) (w .row) (w .lists) e entries .0 (g ∙ q) .1) (v .record-stands)),
     )
     given n d (inr g) = let l = outcome-later (outcomeOf c e entries w) .least (λ z. d (sym g ∙ z)) in ((λ q. omega arith), (λ q. omega arith))
 

@@ -12,7 +12,8 @@ use Rattle.messages.specs.declared.PaxosMsg.the-variants as msg
 use Rattle.paxos_box.specs.declared.SequencePaxos.{SequencePaxos}
 use Rattle.paxos_box.specs.declared.Role.{Role}
 use Rattle.paxos_box.specs.declared.Role.the-variants.{Leader, Follower}
-use Rattle.sequence_paxos.specs.Decide.{handle, resendBy, drained, restarted, taken, decideOf}
+use Rattle.outcome.specs.Outcome.{drained, restarted}
+use Rattle.sequence_paxos.specs.Decide.{handle, resendBy, taken, decideOf}
 use Rattle.sequence_paxos.specs.Fit.{fewIn, fitEvent}
 use Rattle.decide_laws.proofs.Grown.{InPlace}
 use Rattle.decide_laws.proofs.Table.{Given, is-unfit, at-top, past-log, past-buffer, past-queue, all-fit, given-exactly}

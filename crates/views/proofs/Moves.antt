@@ -38,7 +38,7 @@ use Rattle.log_plan.specs.Log.{syncEnd, syncLog, appendGiven, keptOf, appendBuf
 use Rattle.leader.specs.Leader.{keepPromise, ownMeta, ownPromise, keepSync}
 use Rattle.accepting.specs.Accepting.{sendAccepted}
 use Rattle.follower.specs.Follower.{countOf, logSource, cachedSource, keptSync, promiseOf, sendPromise, cachePromise}
-use Rattle.sequence_paxos.specs.Decide.{drained, restarted}
+use Rattle.outcome.specs.Outcome.{drained, restarted}
 use Rattle.broken.specs.Broken.{syncIn}
 use Rattle.storage.specs.Storage.{endAfter}
 use Rattle.decide_laws.proofs.Grown.{either}

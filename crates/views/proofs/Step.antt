@@ -12,7 +12,8 @@ use Rattle.quorum.specs.declared.Configuration.{Configuration}
 use Rattle.messages.specs.declared.Event.{Event}
 use Rattle.messages.specs.declared.Event.the-variants as event
 use Rattle.paxos_box.specs.declared.SequencePaxos.{SequencePaxos}
-use Rattle.sequence_paxos.specs.Decide.{taken, outcomeRefusal}
+use Rattle.outcome.specs.Outcome.{outcomeRefusal}
+use Rattle.sequence_paxos.specs.Decide.{taken}
 use Rattle.record.specs.Record.{freshRecord}
 use Rattle.outgoing.specs.Queue.{lent, queueOf}
 use Rattle.outgoing.proofs.Kept.{sums-none}

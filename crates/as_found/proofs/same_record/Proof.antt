@@ -4,40 +4,28 @@ use mathlib.Core.Path.{sym, _∙_, ap}
 use borrow.Author.Needs.{needs}
 use Rattle.as_found.proofs.same_record.Statement.{statement}
 use Rattle.as_found.proofs.same_record.Tie as tie
-use Rattle.as_found.proofs.same_record.Reads as reads
-use Rattle.as_found.proofs.same_record.Lts as lts
-use Rattle.cluster.proofs.same.Reads as same-reads
-use Rattle.layout_record.proofs.write_record.Reads as write-record-reads
 
--- src/lib.rt:19:33
 slice-aggregate-write-record : tie.Need-slice-aggregate-write-record
 slice-aggregate-write-record c = search needs
 
--- src/lib.rt:19:5
 write-record-requires : tie.Need-write-record-requires
 write-record-requires c κs = search needs
 
--- src/lib.rt:20:33
 slice-aggregate-write-record-2 : tie.Need-slice-aggregate-write-record-2
 slice-aggregate-write-record-2 c = search needs
 
--- src/lib.rt:20:5
 write-record-requires-2 : tie.Need-write-record-requires-2
 write-record-requires-2 c κs = search needs
 
--- src/lib.rt:21:19
 slice-aggregate-same : tie.Need-slice-aggregate-same
 slice-aggregate-same c = search needs
 
--- src/lib.rt:21:23
 slice-aggregate-same-2 : tie.Need-slice-aggregate-same-2
 slice-aggregate-same-2 c = search needs
 
--- src/lib.rt:21:5
 same-requires : tie.Need-same-requires
 same-requires c κs = search needs
 
--- src/lib.rt:14:1
 returns : tie.Need-returns
 returns c = λ e. sym (c .before .before .before .before .before .before .before .write-record .ensures .1) ∙ (ap recordIn (c .same .ensures .0 e) ∙ c .before .before .before .before .write-record2 .ensures .1)
 

@@ -4,40 +4,28 @@ use mathlib.Core.Path.{sym, _∙_, ap}
 use borrow.Author.Needs.{needs}
 use Rattle.as_found.proofs.same_row.Statement.{statement}
 use Rattle.as_found.proofs.same_row.Tie as tie
-use Rattle.as_found.proofs.same_row.Reads as reads
-use Rattle.as_found.proofs.same_row.Lts as lts
-use Rattle.cluster.proofs.same.Reads as same-reads
-use Rattle.layout_row.proofs.write_row.Reads as write-row-reads
 
--- src/lib.rt:29:27
 slice-aggregate-write-row : tie.Need-slice-aggregate-write-row
 slice-aggregate-write-row c = search needs
 
--- src/lib.rt:29:5
 write-row-requires : tie.Need-write-row-requires
 write-row-requires c κs = search needs
 
--- src/lib.rt:30:27
 slice-aggregate-write-row-2 : tie.Need-slice-aggregate-write-row-2
 slice-aggregate-write-row-2 c = search needs
 
--- src/lib.rt:30:5
 write-row-requires-2 : tie.Need-write-row-requires-2
 write-row-requires-2 c κs = search needs
 
--- src/lib.rt:31:19
 slice-aggregate-same : tie.Need-slice-aggregate-same
 slice-aggregate-same c = search needs
 
--- src/lib.rt:31:23
 slice-aggregate-same-2 : tie.Need-slice-aggregate-same-2
 slice-aggregate-same-2 c = search needs
 
--- src/lib.rt:31:5
 same-requires : tie.Need-same-requires
 same-requires c κs = search needs
 
--- src/lib.rt:24:1
 returns : tie.Need-returns
 returns c = λ e. sym (c .before .before .before .before .before .before .before .write-row .ensures .1 .0) ∙ (ap rowIn (c .same .ensures .0 e) ∙ c .before .before .before .before .write-row2 .ensures .1 .0)
 

@@ -2,18 +2,13 @@
 use Rattle.base.proofs.Sets.{picks}
 use Rattle.cluster.proofs.place.Statement.{statement}
 use Rattle.cluster.proofs.place.Tie as tie
-use Rattle.cluster.proofs.place.Reads as reads
-use Rattle.cluster.proofs.place.Lts as lts
 
--- src/lib.rt:172:9
 returns : tie.Need-returns
 returns c = (search picks, search picks)
 
--- src/lib.rt:175:9
 returns-2 : tie.Need-returns-2
 returns-2 c = (search picks, search picks)
 
--- src/lib.rt:167:1
 returns-3 : tie.Need-returns-3
 returns-3 c = (search picks, search picks)
 

@@ -11,8 +11,6 @@ use mathlib.Core.List.{List}
 use mathlib.Core.Path.{_≡_, refl, ap, subst}
 use Rattle.cluster.proofs.same.Statement.{statement}
 use Rattle.cluster.proofs.same.Tie as tie
-use Rattle.cluster.proofs.same.Reads as reads
-use Rattle.cluster.proofs.same.Lts as lts
 
 abbrev Inv-loop : tie.InvT-loop
 Inv-loop a b i₀ i = ((k : ℕ) → k < i → getD a k 0 ≡ getD b k 0) × (i ≤ length a)
@@ -23,47 +21,36 @@ abbrev μ-loop : tie.MeasureT-loop
 never : {X : Type 0} → _≡_ {A = Bool} false true → X
 never e = absurd (let w : _≡_ {A = ℕ} 0 1 = cc in omega arith)
 
--- src/lib.rt:250:9
 returns : tie.Need-returns Inv-loop μ-loop
 returns c = ((λ e. never e), (λ e. absurd ((c .if1 .taken) (ap (λ (l : List ℕ). length l) e))))
 
--- src/lib.rt:253:5
 loop-holds : tie.Need-loop-holds Inv-loop μ-loop
 loop-holds c = (below-none (λ k. getD (c .before .args .a .now) k 0 ≡ getD (c .before .args .b .now) k 0), search needs)
 
--- src/lib.rt:254:12
 mul-if2 : tie.Need-mul-if2 Inv-loop μ-loop
 mul-if2 c = search needs
 
--- src/lib.rt:254:12
 shared-slice-read-if2 : tie.Need-shared-slice-read-if2 Inv-loop μ-loop
 shared-slice-read-if2 c = search needs
 
--- src/lib.rt:254:20
 mul-if2-2 : tie.Need-mul-if2-2 Inv-loop μ-loop
 mul-if2-2 c = search needs
 
--- src/lib.rt:254:20
 shared-slice-read-if2-2 : tie.Need-shared-slice-read-if2-2 Inv-loop μ-loop
 shared-slice-read-if2-2 c = search needs
 
--- src/lib.rt:255:13
 returns-2 : tie.Need-returns-2 Inv-loop μ-loop
 returns-2 c = ((λ e. never e), (λ e. absurd ((c .if2 .taken) (ap (λ (l : List ℕ). getD l (c .before .before .before .before .loop .i) 0) e))))
 
--- src/lib.rt:257:9
 add-i : tie.Need-add-i Inv-loop μ-loop
 add-i c = search needs
 
--- src/lib.rt:253:5
 loop-less : tie.Need-loop-less Inv-loop μ-loop
 loop-less c = search needs
 
--- src/lib.rt:253:5
 loop-again : tie.Need-loop-again Inv-loop μ-loop
 loop-again c = (below-more _ _ (c .before .before .before .before .loop .inv .0) (c .if2 .left), search needs)
 
--- src/lib.rt:246:1
 returns-3 : tie.Need-returns-3 Inv-loop μ-loop
 returns-3 c =
     ((λ e. ext-getD 0 (c .before .before .before .args .a .now) (c .before .before .before .args .b .now) (c .before .before .if1 .left) (subst (λ (n : ℕ). (k : ℕ) → k < n → getD (c .before .before .before .args .a .now) k 0 ≡ getD (c .before .before .before .args .b .now) k 0) (le-antisymm (c .before .loop .inv .1) (c .loop-test .left)) (c .before .loop .inv .0))), (λ e. refl))

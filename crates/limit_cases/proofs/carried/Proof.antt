@@ -3,10 +3,6 @@ use Prim.Native.Nat.{_≤_, _-_}
 use borrow.Author.Needs.{needs}
 use Rattle.limit_cases.proofs.carried.Statement.{statement}
 use Rattle.limit_cases.proofs.carried.Tie as tie
-use Rattle.limit_cases.proofs.carried.Reads as reads
-use Rattle.limit_cases.proofs.carried.Lts as lts
-use Rattle.cluster.proofs.Site.head.Reads as head-reads
-use Rattle.std.proofs.num.wrapping_add_usize.Reads as wrapping-add-usize-reads
 
 abbrev Inv-loop : tie.InvT-loop
 Inv-loop s count sum₀ at₀ sum at = at ≤ count
@@ -14,31 +10,24 @@ Inv-loop s count sum₀ at₀ sum at = at ≤ count
 abbrev μ-loop : tie.MeasureT-loop
 μ-loop s count sum₀ at₀ sum at = count - at
 
--- src/main.rt:21:5
 loop-holds : tie.Need-loop-holds Inv-loop μ-loop
 loop-holds c = search needs
 
--- src/main.rt:22:13
 head-requires : tie.Need-head-requires Inv-loop μ-loop
 head-requires c κs = search needs
 
--- src/main.rt:23:9
 wrapping-add-usize-requires : tie.Need-wrapping-add-usize-requires Inv-loop μ-loop
 wrapping-add-usize-requires c κs = search needs
 
--- src/main.rt:24:9
 add-at : tie.Need-add-at Inv-loop μ-loop
 add-at c = search needs
 
--- src/main.rt:21:5
 loop-less : tie.Need-loop-less Inv-loop μ-loop
 loop-less c = search needs
 
--- src/main.rt:21:5
 loop-again : tie.Need-loop-again Inv-loop μ-loop
 loop-again c = search needs
 
--- src/main.rt:18:1
 returns : tie.Need-returns Inv-loop μ-loop
 returns c = search needs
 

@@ -3,12 +3,6 @@ use Prim.Native.Nat.{_≤_, _-_}
 use borrow.Author.Needs.{needs}
 use Rattle.limit_cases.proofs.six_syncs.Statement.{statement}
 use Rattle.limit_cases.proofs.six_syncs.Tie as tie
-use Rattle.limit_cases.proofs.six_syncs.Reads as reads
-use Rattle.limit_cases.proofs.six_syncs.Lts as lts
-use Rattle.limit_cases.proofs.again.Reads as again-reads
-use Rattle.limit_cases.proofs.boxes.leader_of.Reads as leader-of-reads
-use Rattle.limit_cases.proofs.boxes.promise_from.Reads as promise-from-reads
-use Rattle.limit_cases.proofs.case.Reads as case-reads
 
 abbrev Inv-loop : tie.InvT-loop
 Inv-loop none n site₀ from₀ t8 site from = from ≤ 7
@@ -16,59 +10,45 @@ Inv-loop none n site₀ from₀ t8 site from = from ≤ 7
 abbrev μ-loop : tie.MeasureT-loop
 μ-loop none n site₀ from₀ t8 site from = 7 - from
 
--- src/main.rt:122:19
 leader-of-requires : tie.Need-leader-of-requires Inv-loop μ-loop
 leader-of-requires c κs = search needs
 
--- src/main.rt:122:9
 again-requires : tie.Need-again-requires Inv-loop μ-loop
 again-requires c κs = search needs
 
--- src/main.rt:123:9
 again-requires-2 : tie.Need-again-requires-2 Inv-loop μ-loop
 again-requires-2 c κs = search needs
 
--- src/main.rt:125:5
 loop-holds : tie.Need-loop-holds Inv-loop μ-loop
 loop-holds c = search needs
 
--- src/main.rt:126:28
 promise-from-requires : tie.Need-promise-from-requires Inv-loop μ-loop
 promise-from-requires c κs = search needs
 
--- src/main.rt:126:9
 again-requires-3 : tie.Need-again-requires-3 Inv-loop μ-loop
 again-requires-3 c κs = search needs
 
--- src/main.rt:127:9
 add-from : tie.Need-add-from Inv-loop μ-loop
 add-from c = search needs
 
--- src/main.rt:125:5
 loop-less : tie.Need-loop-less Inv-loop μ-loop
 loop-less c = search needs
 
--- src/main.rt:125:5
 loop-again : tie.Need-loop-again Inv-loop μ-loop
 loop-again c = search needs
 
--- src/main.rt:129:10
 slice-aggregate-case : tie.Need-slice-aggregate-case Inv-loop μ-loop
 slice-aggregate-case c = search needs
 
--- src/main.rt:129:71
 promise-from-requires-2 : tie.Need-promise-from-requires-2 Inv-loop μ-loop
 promise-from-requires-2 c κs = search needs
 
--- src/main.rt:129:91
 slice-aggregate-case-2 : tie.Need-slice-aggregate-case-2 Inv-loop μ-loop
 slice-aggregate-case-2 c = search needs
 
--- src/main.rt:129:5
 case-requires : tie.Need-case-requires Inv-loop μ-loop
 case-requires c κs = search needs
 
--- src/main.rt:106:1
 returns : tie.Need-returns Inv-loop μ-loop
 returns c = search needs
 

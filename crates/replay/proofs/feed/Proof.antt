@@ -5,7 +5,6 @@ use lib.ListN.{length}
 use Prim.Native.Nat.{_≤_, _-_}
 use Rattle.replay.proofs.feed.Statement.{statement}
 use Rattle.replay.proofs.feed.Tie as tie
-use Rattle.replay.proofs.Machine.byte.Reads as byte-reads
 
 abbrev Inv-loop : tie.InvT-loop
 Inv-loop memory₀ bytes next₀ i₀ memory next i = (i ≤ length bytes) × (length memory ≡ length memory₀)

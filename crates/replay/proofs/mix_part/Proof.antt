@@ -4,7 +4,6 @@ use lib.ListN.{length}
 use Prim.Native.Nat.{_≤_, _-_}
 use Rattle.replay.proofs.mix_part.Statement.{statement}
 use Rattle.replay.proofs.mix_part.Tie as tie
-use Rattle.replay.proofs.mix.Reads as mix-reads
 
 abbrev Inv-loop : tie.InvT-loop
 Inv-loop sum words s₀ i₀ s i = i ≤ length words

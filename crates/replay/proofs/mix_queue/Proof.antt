@@ -3,8 +3,6 @@ use borrow.Author.Needs.{needs}
 use Prim.Native.Nat.{_≤_, _-_}
 use Rattle.replay.proofs.mix_queue.Statement.{statement}
 use Rattle.replay.proofs.mix_queue.Tie as tie
-use Rattle.replay.proofs.mix_message.Reads as mix-message-reads
-use Rattle.storage.proofs.part.Reads as part-reads
 
 abbrev Inv-loop : tie.InvT-loop
 Inv-loop sum row store count s₀ k₀ s k = k ≤ 64

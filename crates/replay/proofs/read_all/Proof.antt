@@ -5,10 +5,6 @@ use lib.ListN.{length}
 use Prim.Native.Nat.{_-_}
 use Rattle.replay.proofs.read_all.Statement.{statement}
 use Rattle.replay.proofs.read_all.Tie as tie
-use Rattle.io.proofs.large_buffer.Reads as large-buffer-reads
-use Rattle.io.proofs.read_full.Reads as read-full-reads
-use Rattle.replay.proofs.Machine.fresh.Reads as fresh-reads
-use Rattle.replay.proofs.feed.Reads as feed-reads
 
 abbrev Inv-loop : tie.InvT-loop
 Inv-loop memory₀ m₀ turns₀ is-more₀ memory m turns is-more = length memory ≡ length memory₀

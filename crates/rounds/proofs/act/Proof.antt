@@ -4,47 +4,31 @@ use Rattle.cluster.specs.declared.Moved.{Moved}
 use borrow.Author.Needs.{needs}
 use Rattle.rounds.proofs.act.Statement.{statement}
 use Rattle.rounds.proofs.act.Tie as tie
-use Rattle.rounds.proofs.act.Reads as reads
-use Rattle.rounds.proofs.act.Lts as lts
-use Rattle.cluster.proofs.Cluster.step.Reads as step-reads
-use Rattle.telling.proofs.say.Reads as say-reads
-use Rattle.telling.proofs.say_answer.Reads as say-answer-reads
-use Rattle.telling.proofs.say_entries.Reads as say-entries-reads
-use Rattle.telling.proofs.say_number.Reads as say-number-reads
 
--- src/lib.rt:36:16
 slice-aggregate-say-number : tie.Need-slice-aggregate-say-number
 slice-aggregate-say-number c = search needs
 
--- src/lib.rt:36:5
 say-number-requires : tie.Need-say-number-requires
 say-number-requires c κs = search needs
 
--- src/lib.rt:37:5
 say-requires : tie.Need-say-requires
 say-requires c κs = search needs
 
--- src/lib.rt:38:5
 say-entries-requires : tie.Need-say-entries-requires
 say-entries-requires c κs = search needs
 
--- src/lib.rt:39:9
 step-requires : tie.Need-step-requires
 step-requires c κs = search needs
 
--- src/lib.rt:41:5
 say-answer-requires : tie.Need-say-answer-requires
 say-answer-requires c κs = search needs
 
--- src/lib.rt:42:9
 slice-aggregate-say : tie.Need-slice-aggregate-say
 slice-aggregate-say c = search needs
 
--- src/lib.rt:42:5
 say-requires-2 : tie.Need-say-requires-2
 say-requires-2 c κs = search needs
 
--- src/lib.rt:33:1
 returns : tie.Need-returns
 returns c = ap (λ (m : Moved). m .cluster) (c .before .before .before .before .before .step .ensures)
 

@@ -7,10 +7,6 @@ use Rattle.rounds.proofs.Laws.{carry-none, carry-more, drained-all}
 use borrow.Author.Needs.{needs}
 use Rattle.rounds.proofs.drain.Statement.{statement}
 use Rattle.rounds.proofs.drain.Tie as tie
-use Rattle.rounds.proofs.drain.Reads as reads
-use Rattle.rounds.proofs.drain.Lts as lts
-use Rattle.cluster.proofs.Cluster.step.Reads as step-reads
-use Rattle.rounds.proofs.carry.Reads as carry-reads
 
 abbrev Inv-loop : tie.InvT-loop
 Inv-loop from lost count cluster₀ at₀ cluster at = (at ≤ count) × (cluster ≡ carryBelow from lost at cluster₀)
@@ -18,35 +14,27 @@ Inv-loop from lost count cluster₀ at₀ cluster at = (at ≤ count) × (cluste
 abbrev μ-loop : tie.MeasureT-loop
 μ-loop from lost count cluster₀ at₀ cluster at = count - at
 
--- src/lib.rt:69:40
 slice-aggregate-step : tie.Need-slice-aggregate-step Inv-loop μ-loop
 slice-aggregate-step c = search needs
 
--- src/lib.rt:69:9
 step-requires : tie.Need-step-requires Inv-loop μ-loop
 step-requires c κs = search needs
 
--- src/lib.rt:74:5
 loop-holds : tie.Need-loop-holds Inv-loop μ-loop
 loop-holds c = (search needs, carry-none (c .before .before .before .before .args .from) (c .before .before .before .before .args .lost) _)
 
--- src/lib.rt:75:9
 carry-requires : tie.Need-carry-requires Inv-loop μ-loop
 carry-requires c κs = search needs
 
--- src/lib.rt:76:9
 add-at : tie.Need-add-at Inv-loop μ-loop
 add-at c = search needs
 
--- src/lib.rt:74:5
 loop-less : tie.Need-loop-less Inv-loop μ-loop
 loop-less c = search needs
 
--- src/lib.rt:74:5
 loop-again : tie.Need-loop-again Inv-loop μ-loop
 loop-again c = (search needs, carry-more (c .before .before .before .before .before .before .before .args .from) (c .before .before .before .before .before .before .before .args .lost) (c .before .before .loop .at) _ _ _ (c .before .before .loop .inv .1) (c .carry .ensures))
 
--- src/lib.rt:65:1
 returns : tie.Need-returns Inv-loop μ-loop
 returns c = drained-all (c .before .before .before .before .before .before .args .from) (c .before .before .before .before .before .before .args .lost) (c .before .loop .at) (c .before .before .before .before .before .before .args .c) (c .before .loop .cluster) (c .before .before .before .before .step .result) (c .before .before .before .before .step .ensures) (omega arith) (c .before .loop .inv .1)
 

@@ -3,38 +3,28 @@ use Rattle.rounds.specs.Drains.{nextSender}
 use borrow.Author.Needs.{needs}
 use Rattle.rounds.proofs.next_sender.Statement.{statement}
 use Rattle.rounds.proofs.next_sender.Tie as tie
-use Rattle.rounds.proofs.next_sender.Reads as reads
-use Rattle.rounds.proofs.next_sender.Lts as lts
-use Rattle.rounds.proofs.waits.Reads as waits-reads
 
--- src/lib.rt:240:8
 waits-requires : tie.Need-waits-requires
 waits-requires c κs = search needs
 
--- src/lib.rt:241:9
 returns : tie.Need-returns
 unfolding nextSender
 returns c = rw (← c .before .waits .ensures, c .if1 .taken)
 
--- src/lib.rt:243:8
 waits-requires-2 : tie.Need-waits-requires-2
 waits-requires-2 c κs = search needs
 
--- src/lib.rt:244:9
 returns-2 : tie.Need-returns-2
 unfolding nextSender
 returns-2 c = rw (← c .before .before .before .waits .ensures, c .before .before .if1 .left, ← c .before .waits2 .ensures, c .if2 .taken)
 
--- src/lib.rt:246:8
 waits-requires-3 : tie.Need-waits-requires-3
 waits-requires-3 c κs = search needs
 
--- src/lib.rt:247:9
 returns-3 : tie.Need-returns-3
 unfolding nextSender
 returns-3 c = rw (← c .before .before .before .before .before .waits .ensures, c .before .before .before .before .if1 .left, ← c .before .before .before .waits2 .ensures, c .before .before .if2 .left, ← c .before .waits3 .ensures, c .if3 .taken)
 
--- src/lib.rt:237:1
 returns-4 : tie.Need-returns-4
 unfolding nextSender
 returns-4 c = rw (← c .before .before .before .before .before .waits .ensures, c .before .before .before .before .if1 .left, ← c .before .before .before .waits2 .ensures, c .before .before .if2 .left, ← c .before .waits3 .ensures, c .if3 .left)

@@ -3,13 +3,6 @@ use Prim.Native.Nat.{_≤_, _-_}
 use borrow.Author.Needs.{needs}
 use Rattle.rounds.proofs.say_queue.Statement.{statement}
 use Rattle.rounds.proofs.say_queue.Tie as tie
-use Rattle.rounds.proofs.say_queue.Reads as reads
-use Rattle.rounds.proofs.say_queue.Lts as lts
-use Rattle.cluster.proofs.Site.head.Reads as head-reads
-use Rattle.rounds.proofs.queued.Reads as queued-reads
-use Rattle.rounds.proofs.say_head.Reads as say-head-reads
-use Rattle.telling.proofs.say.Reads as say-reads
-use Rattle.telling.proofs.say_number.Reads as say-number-reads
 
 abbrev Inv-loop : tie.InvT-loop
 Inv-loop s count at₀ t7 at = at ≤ count
@@ -17,59 +10,45 @@ Inv-loop s count at₀ t7 at = at ≤ count
 abbrev μ-loop : tie.MeasureT-loop
 μ-loop s count at₀ t7 at = count - at
 
--- src/lib.rt:92:16
 slice-aggregate-say-number : tie.Need-slice-aggregate-say-number Inv-loop μ-loop
 slice-aggregate-say-number c = search needs
 
--- src/lib.rt:92:5
 say-number-requires : tie.Need-say-number-requires Inv-loop μ-loop
 say-number-requires c κs = search needs
 
--- src/lib.rt:93:9
 slice-aggregate-say : tie.Need-slice-aggregate-say Inv-loop μ-loop
 slice-aggregate-say c = search needs
 
--- src/lib.rt:93:5
 say-requires : tie.Need-say-requires Inv-loop μ-loop
 say-requires c κs = search needs
 
--- src/lib.rt:94:9
 queued-requires : tie.Need-queued-requires Inv-loop μ-loop
 queued-requires c κs = search needs
 
--- src/lib.rt:96:5
 loop-holds : tie.Need-loop-holds Inv-loop μ-loop
 loop-holds c = search needs
 
--- src/lib.rt:97:21
 head-requires : tie.Need-head-requires Inv-loop μ-loop
 head-requires c κs = search needs
 
--- src/lib.rt:97:9
 say-head-requires : tie.Need-say-head-requires Inv-loop μ-loop
 say-head-requires c κs = search needs
 
--- src/lib.rt:98:13
 slice-aggregate-say-2 : tie.Need-slice-aggregate-say-2 Inv-loop μ-loop
 slice-aggregate-say-2 c = search needs
 
--- src/lib.rt:98:9
 say-requires-2 : tie.Need-say-requires-2 Inv-loop μ-loop
 say-requires-2 c κs = search needs
 
--- src/lib.rt:99:9
 add-at : tie.Need-add-at Inv-loop μ-loop
 add-at c = search needs
 
--- src/lib.rt:96:5
 loop-less : tie.Need-loop-less Inv-loop μ-loop
 loop-less c = search needs
 
--- src/lib.rt:96:5
 loop-again : tie.Need-loop-again Inv-loop μ-loop
 loop-again c = search needs
 
--- src/lib.rt:90:1
 returns : tie.Need-returns Inv-loop μ-loop
 returns c = search needs
 

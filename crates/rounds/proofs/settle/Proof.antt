@@ -7,10 +7,6 @@ use Rattle.rounds.specs.Drains.{settled}
 use Rattle.rounds.proofs.Laws.{settled-end, settled-none, settled-again}
 use Rattle.rounds.proofs.settle.Statement.{statement}
 use Rattle.rounds.proofs.settle.Tie as tie
-use Rattle.rounds.proofs.settle.Reads as reads
-use Rattle.rounds.proofs.settle.Lts as lts
-use Rattle.rounds.proofs.drain.Reads as drain-reads
-use Rattle.rounds.proofs.next_sender.Reads as next-sender-reads
 
 abbrev Inv-loop : tie.InvT-loop
 Inv-loop drains cluster₀ left₀ cluster left = settled left cluster ≡ settled drains cluster₀
@@ -18,35 +14,27 @@ Inv-loop drains cluster₀ left₀ cluster left = settled left cluster ≡ settl
 abbrev μ-loop : tie.MeasureT-loop
 μ-loop drains cluster₀ left₀ cluster left = left
 
--- src/lib.rt:126:5
 loop-holds : tie.Need-loop-holds Inv-loop μ-loop
 loop-holds c = refl
 
--- src/lib.rt:127:13
 next-sender-requires : tie.Need-next-sender-requires Inv-loop μ-loop
 next-sender-requires c κs = search needs
 
--- src/lib.rt:129:13
 returns : tie.Need-returns Inv-loop μ-loop
 returns c = sym (settled-none (c .before .before .before .loop .left) (c .before .before .before .loop .cluster) (sym (c .before .next-sender .ensures) ∙ c .if1 .taken)) ∙ c .before .before .before .loop .inv
 
--- src/lib.rt:131:9
 drain-requires : tie.Need-drain-requires Inv-loop μ-loop
 drain-requires c κs = search needs
 
--- src/lib.rt:132:9
 sub-left : tie.Need-sub-left Inv-loop μ-loop
 sub-left c = search needs
 
--- src/lib.rt:126:5
 loop-less : tie.Need-loop-less Inv-loop μ-loop
 loop-less c = search needs
 
--- src/lib.rt:126:5
 loop-again : tie.Need-loop-again Inv-loop μ-loop
 loop-again c = settled-again (c .before .before .before .before .loop .left) (c .before .before .next-sender .result) (c .before .before .before .before .loop .cluster) (c .drain .result) (c .before .before .before .loop-test .taken) (c .before .before .next-sender .ensures) (c .before .if1 .left) (c .drain .ensures) ∙ c .before .before .before .before .loop .inv
 
--- src/lib.rt:121:1
 returns-2 : tie.Need-returns-2 Inv-loop μ-loop
 returns-2 c = sym (settled-end (c .before .loop .left) (c .before .loop .cluster) (c .loop-test .left)) ∙ c .before .loop .inv
 

@@ -4,24 +4,16 @@ use Rattle.hire_book.specs.Step.{Told}
 use borrow.Author.Needs.{needs}
 use Rattle.rounds.proofs.total_of.Statement.{statement}
 use Rattle.rounds.proofs.total_of.Tie as tie
-use Rattle.rounds.proofs.total_of.Reads as reads
-use Rattle.rounds.proofs.total_of.Lts as lts
-use Rattle.hire_book.proofs.total_days.Reads as total-days-reads
-use Rattle.rounds.proofs.total.Reads as total-reads
 
--- src/lib.rt:284:33
 slice-aggregate-total-days : tie.Need-slice-aggregate-total-days
 slice-aggregate-total-days c = search needs
 
--- src/lib.rt:284:11
 total-days-requires : tie.Need-total-days-requires
 total-days-requires c κs = search needs
 
--- src/lib.rt:284:5
 total-requires : tie.Need-total-requires
 total-requires c κs = search needs
 
--- src/lib.rt:281:1
 returns : tie.Need-returns
 returns c = c .total .ensures ∙ ap (λ (t : Told). t .days) (c .before .total-days .ensures)
 

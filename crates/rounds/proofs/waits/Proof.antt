@@ -8,20 +8,13 @@ use Rattle.rounds.specs.Drains.{waitsAt}
 use borrow.Author.Needs.{needs}
 use Rattle.rounds.proofs.waits.Statement.{statement}
 use Rattle.rounds.proofs.waits.Tie as tie
-use Rattle.rounds.proofs.waits.Reads as reads
-use Rattle.rounds.proofs.waits.Lts as lts
-use Rattle.cluster.proofs.Cluster.site.Reads as site-reads
-use Rattle.rounds.proofs.queued.Reads as queued-reads
 
--- src/lib.rt:106:12
 site-requires : tie.Need-site-requires
 site-requires c κs = search needs
 
--- src/lib.rt:106:5
 queued-requires : tie.Need-queued-requires
 queued-requires c κs = search needs
 
--- src/lib.rt:103:1
 returns : tie.Need-returns
 unfolding waitsAt
 returns c = ap (λ (n : ℕ). not (eqb n 0)) (c .queued .ensures ∙ ap (λ (s : Site). s .node .outgoing) (c .before .site .ensures))

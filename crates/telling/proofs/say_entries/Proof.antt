@@ -4,10 +4,6 @@ use lib.ListN.{length}
 use borrow.Author.Needs.{needs}
 use Rattle.telling.proofs.say_entries.Statement.{statement}
 use Rattle.telling.proofs.say_entries.Tie as tie
-use Rattle.telling.proofs.say_entries.Reads as reads
-use Rattle.telling.proofs.say_entries.Lts as lts
-use Rattle.telling.proofs.say.Reads as say-reads
-use Rattle.telling.proofs.say_number.Reads as say-number-reads
 
 abbrev Inv-loop : tie.InvT-loop
 Inv-loop entries i₀ t4 i = i ≤ length entries
@@ -15,51 +11,39 @@ Inv-loop entries i₀ t4 i = i ≤ length entries
 abbrev μ-loop : tie.MeasureT-loop
 μ-loop entries i₀ t4 i = length entries - i
 
--- src/lib.rt:38:9
 returns : tie.Need-returns Inv-loop μ-loop
 returns c = search needs
 
--- src/lib.rt:40:9
 slice-aggregate-say : tie.Need-slice-aggregate-say Inv-loop μ-loop
 slice-aggregate-say c = search needs
 
--- src/lib.rt:40:5
 say-requires : tie.Need-say-requires Inv-loop μ-loop
 say-requires c κs = search needs
 
--- src/lib.rt:42:5
 loop-holds : tie.Need-loop-holds Inv-loop μ-loop
 loop-holds c = search needs
 
--- src/lib.rt:43:20
 slice-aggregate-say-number : tie.Need-slice-aggregate-say-number Inv-loop μ-loop
 slice-aggregate-say-number c = search needs
 
--- src/lib.rt:43:26
 mul-say-number : tie.Need-mul-say-number Inv-loop μ-loop
 mul-say-number c = search needs
 
--- src/lib.rt:43:26
 shared-slice-read-say-number : tie.Need-shared-slice-read-say-number Inv-loop μ-loop
 shared-slice-read-say-number c = search needs
 
--- src/lib.rt:43:9
 say-number-requires : tie.Need-say-number-requires Inv-loop μ-loop
 say-number-requires c κs = search needs
 
--- src/lib.rt:44:9
 add-i : tie.Need-add-i Inv-loop μ-loop
 add-i c = search needs
 
--- src/lib.rt:42:5
 loop-less : tie.Need-loop-less Inv-loop μ-loop
 loop-less c = search needs
 
--- src/lib.rt:42:5
 loop-again : tie.Need-loop-again Inv-loop μ-loop
 loop-again c = search needs
 
--- src/lib.rt:36:1
 returns-2 : tie.Need-returns-2 Inv-loop μ-loop
 returns-2 c = search needs
 

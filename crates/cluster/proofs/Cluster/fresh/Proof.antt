@@ -2,36 +2,25 @@
 use borrow.Author.Needs.{needs}
 use Rattle.cluster.proofs.Cluster.fresh.Statement.{statement}
 use Rattle.cluster.proofs.Cluster.fresh.Tie as tie
-use Rattle.cluster.proofs.Cluster.fresh.Reads as reads
-use Rattle.cluster.proofs.Cluster.fresh.Lts as lts
-use Rattle.cluster.proofs.Site.fresh.Reads as fresh-reads
-use Rattle.cluster.proofs.majority.Reads as majority-reads
 
--- src/lib.rt:185:33
 majority-requires : tie.Need-majority-requires
 majority-requires c κs = search needs
 
--- src/lib.rt:185:13
 fresh-requires : tie.Need-fresh-requires
 fresh-requires c κs = search needs
 
--- src/lib.rt:186:34
 majority-requires-2 : tie.Need-majority-requires-2
 majority-requires-2 c κs = search needs
 
--- src/lib.rt:186:13
 fresh-requires-2 : tie.Need-fresh-requires-2
 fresh-requires-2 c κs = search needs
 
--- src/lib.rt:187:33
 majority-requires-3 : tie.Need-majority-requires-3
 majority-requires-3 c κs = search needs
 
--- src/lib.rt:187:13
 fresh-requires-3 : tie.Need-fresh-requires-3
 fresh-requires-3 c κs = search needs
 
--- src/lib.rt:182:5
 returns : tie.Need-returns
 returns c = rw (c .fresh3 .ensures, c .before .majority3 .ensures, c .before .before .fresh2 .ensures, c .before .before .before .majority2 .ensures, c .before .before .before .before .fresh .ensures, c .before .before .before .before .before .majority .ensures)
 

@@ -8,23 +8,16 @@ use Rattle.sight.proofs.Heads.{within}
 use Rattle.cluster.specs.Cluster.{freshSite, majority}
 use Rattle.cluster.proofs.Cluster.site.Statement.{statement}
 use Rattle.cluster.proofs.Cluster.site.Tie as tie
-use Rattle.cluster.proofs.Cluster.site.Reads as reads
-use Rattle.cluster.proofs.Cluster.site.Lts as lts
-use Rattle.cluster.proofs.place.Reads as place-reads
 
--- src/lib.rt:196:13
 place-requires : tie.Need-place-requires
 place-requires c κs = search needs
 
--- src/lib.rt:197:9
 mul-result : tie.Need-mul-result
 mul-result c = search needs
 
--- src/lib.rt:197:9
 element-copy-out-result : tie.Need-element-copy-out-result
 element-copy-out-result c = search needs
 
--- src/lib.rt:193:5
 returns : tie.Need-returns
 returns c =
     let sites = c .before .before .args .t1 .sites in

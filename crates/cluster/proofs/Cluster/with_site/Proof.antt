@@ -2,23 +2,16 @@
 use borrow.Author.Needs.{needs}
 use Rattle.cluster.proofs.Cluster.with_site.Statement.{statement}
 use Rattle.cluster.proofs.Cluster.with_site.Tie as tie
-use Rattle.cluster.proofs.Cluster.with_site.Reads as reads
-use Rattle.cluster.proofs.Cluster.with_site.Lts as lts
-use Rattle.cluster.proofs.place.Reads as place-reads
 
--- src/lib.rt:203:13
 place-requires : tie.Need-place-requires
 place-requires c κs = search needs
 
--- src/lib.rt:204:9
 mul-site : tie.Need-mul-site
 mul-site c = search needs
 
--- src/lib.rt:204:9
 element-set-from-site : tie.Need-element-set-from-site
 element-set-from-site c = search needs
 
--- src/lib.rt:200:5
 returns : tie.Need-returns
 returns c = rw (c .place .ensures .0)
 

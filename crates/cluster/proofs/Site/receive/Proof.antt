@@ -3,24 +3,16 @@ use Rattle.cluster.specs.Cluster.{receiveSite}
 use borrow.Author.Needs.{needs}
 use Rattle.cluster.proofs.Site.receive.Statement.{statement}
 use Rattle.cluster.proofs.Site.receive.Tie as tie
-use Rattle.cluster.proofs.Site.receive.Reads as reads
-use Rattle.cluster.proofs.Site.receive.Lts as lts
-use Rattle.cluster.proofs.Site.step.Reads as step-reads
-use Rattle.storage.proofs.part.Reads as part-reads
 
--- src/lib.rt:161:37
 slice-aggregate-part : tie.Need-slice-aggregate-part
 slice-aggregate-part c = search needs
 
--- src/lib.rt:161:13
 part-requires : tie.Need-part-requires
 part-requires c κs = search needs
 
--- src/lib.rt:162:9
 step-requires : tie.Need-step-requires
 step-requires c κs = search needs
 
--- src/lib.rt:149:5
 returns : tie.Need-returns
 unfolding receiveSite
 returns c = rw (c .step .ensures, c .before .part .ensures)

@@ -1,0 +1,2 @@
+-- The definitions of `depot`.
+pub mod Heads

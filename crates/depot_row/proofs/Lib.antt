@@ -1,0 +1,2 @@
+-- Laws that the proofs of `depot_row` use.
+pub mod Laws

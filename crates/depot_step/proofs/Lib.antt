@@ -1,6 +1,0 @@
--- Laws, and calls as steps of a walk, that the proofs of `depot_step` use.
-pub mod Laws
-pub mod SnapshotCall
-pub mod ApplyCall
-pub mod SizedCall
-pub mod PartsCall

@@ -1,2 +1,0 @@
--- The definitions of `depot_step`.
-pub mod Heads

@@ -1,0 +1,2 @@
+-- The definitions of `outcome`.
+pub mod Outcome
