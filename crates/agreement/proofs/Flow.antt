@@ -6,11 +6,11 @@ use mathlib.Core.List.{List, [], _∷_, _++_}
 use native.Mathlib.Omega.{arith}
 use native.Mathlib.Nat.{le-refl}
 use lib.ListN.{length, length-append}
+use Rattle.base.proofs.Tests.{not-both}
 use Rattle.agreement.specs.Core.{Same}
 use Rattle.agreement.specs.Facts.{Part}
 use Rattle.agreement.specs.Stream.{Item, opens, adds, Spot, spot, Later, within, Stream, done, anew, on, gap, Plain, Taker, Feeder, Follows, Feeds, Flow, Took}
 use Rattle.agreement.specs.All.{Sub}
-use Rattle.agreement.proofs.Order.{both}
 use Rattle.agreement.proofs.Same.{same-append, same-length}
 use Rattle.agreement.proofs.Stream.{no-later, below-later, not-there, part-end, stream-append, stream-sub, stream-up, stream-extend, plain-stream}
 
@@ -74,7 +74,7 @@ module _ {E : Type 0} {log : List E} {k : ℕ} {l : List (Item E)} {x : Taker} {
         stream = f .stream;
         within = f .within;
         ahead = f .ahead;
-        follows = record { upto = λ t. absurd (both t n); here = λ t. absurd (both t n) };
+        follows = record { upto = λ t. absurd (not-both t n); here = λ t. absurd (not-both t n) };
         feeds = f .feeds;
       }
 
@@ -89,8 +89,8 @@ flow-new p n s c d =
       stream = plain-stream p;
       within = omega arith;
       ahead = omega arith;
-      follows = record { upto = λ t. absurd (both t n); here = λ t. absurd (both t n) };
-      feeds = record { number = λ t. (s, c); whole = λ t. absurd (both t d) };
+      follows = record { upto = λ t. absurd (not-both t n); here = λ t. absurd (not-both t n) };
+      feeds = record { number = λ t. (s, c); whole = λ t. absurd (not-both t d) };
     }
 
 -- a leader that does no more than it did, with the number that it had

@@ -9,6 +9,7 @@ use native.Mathlib.Nat.{le-refl}
 use lib.Dec.{leb}
 use lib.ListN.{length}
 use borrow.Author.Tests.{leb-true, le-leb}
+use Rattle.base.proofs.Tests.{not-both}
 use Rattle.base.specs.Count.{countBelow}
 use Rattle.base.proofs.Meet.{count-mono}
 use Rattle.ballot.specs.declared.Ballot.{Ballot}
@@ -16,7 +17,7 @@ use Rattle.ballot.proofs.Laws.{default-lowest}
 use Rattle.agreement.specs.Order.{Below, Upto, leaderOf}
 use Rattle.agreement.specs.Core.{Sizes, Ghost, Same, Mark, nothing, begun, Accepts, Heard, Start, Core, Chosen}
 use Rattle.agreement.specs.Growth.{Grows, Rests, Moves, Stays, Ext}
-use Rattle.agreement.proofs.Order.{both, upto-apart, upto-eq, upto-trans, below-upto}
+use Rattle.agreement.proofs.Order.{upto-apart, upto-eq, upto-trans, below-upto}
 use Rattle.agreement.proofs.Same.{same-refl, same-sym, same-trans, same-down, same-length}
 use Rattle.agreement.proofs.Update.{depot-eq}
 
@@ -87,7 +88,7 @@ module _ {E : Type 0} where
     where
       go : {a : ℕ} → Mark g na a → na ≢ n
       go (nothing e _) q = default-lowest m (subst (Below m) (sym q ∙ e) l .is)
-      go (begun t _ _) q = both (subst (λ x. g .started x ≡ true) q t) s
+      go (begun t _ _) q = not-both (subst (λ x. g .started x ≡ true) q t) s
 
   module _ {b : ℕ} {g h : Ghost E} (e : Ext b g h) where
     pub moves : (c : ℕ) → Moves g h c

@@ -8,6 +8,7 @@ use native.Mathlib.Omega.{arith}
 use native.Mathlib.Nat.{le-refl}
 use lib.ListN.{length, take, drop, take-append-drop, length-append, length-drop}
 use lib.Seq.{take-length, length-take-le}
+use Rattle.base.proofs.Tests.{not-both}
 use Rattle.base.specs.Count.{countBelow}
 use Rattle.ballot.specs.declared.Ballot.{Ballot}
 use Rattle.agreement.specs.Order.{Below, lower, Beats, leaderOf}
@@ -16,7 +17,7 @@ use Rattle.agreement.specs.Growth.{Ext, Moved, Rests}
 use Rattle.agreement.specs.Moves.{raise, start, append, accept, Begins}
 use Rattle.agreement.specs.Facts.{Comm, Borne, Holds, Fit, Taken}
 use Rattle.agreement.specs.Report.{Sync, putOn, Brings, Report, Offer, Answer, Told, Prepares, Leads, Valid, Syncs, Elected, Led}
-use Rattle.agreement.proofs.Order.{both, upto-refl, upto-eq, upto-of, upto-trans, upto-apart, upto-below, within-trans, within-refl, within-beats, beats-within}
+use Rattle.agreement.proofs.Order.{upto-refl, upto-eq, upto-of, upto-trans, upto-apart, upto-below, within-trans, within-refl, within-beats, beats-within}
 use Rattle.agreement.proofs.Same.{same-refl, same-sym, same-trans, same-down, same-append, same-take, same-whole, same-length}
 use Rattle.agreement.proofs.Update.{ballot-here}
 use Rattle.agreement.proofs.Growth.{mark-below, logs-up, log-kept, mark-up, mark-fits, moves}
@@ -155,7 +156,7 @@ module _ {E : Type 0} {z : Sizes} {g : Ghost E} (c : Core z g) where
     where
       no : {a : ℕ} → 0 < a → Mark g n a → ⊥
       no p (nothing _ e) = omega arith
-      no p (begun t _ _) = both t s
+      no p (begun t _ _) = not-both t s
 
       go : (k : ℕ) → g .A b n ≡ k → g .A b n ≡ 0
       go zero e = e

@@ -7,12 +7,13 @@ use mathlib.Core.List.{List, [], _++_}
 use native.Mathlib.Omega.{arith}
 use native.Mathlib.Nat.{le-refl}
 use lib.ListN.{length}
+use Rattle.base.proofs.Tests.{not-both}
 use Rattle.ballot.specs.declared.Ballot.{Ballot}
 use Rattle.agreement.specs.Order.{Below, Upto, leaderOf}
 use Rattle.agreement.specs.Core.{Sizes, Ghost, Same, Mark, nothing, begun, Accepts, Start, Core}
 use Rattle.agreement.specs.Growth.{Ext, Moved}
 use Rattle.agreement.specs.Moves.{fresh, raise, start, append, accept, Begins}
-use Rattle.agreement.proofs.Order.{both, below-apart, upto-below, upto-refl, upto-eq, upto-trans}
+use Rattle.agreement.proofs.Order.{below-apart, upto-below, upto-refl, upto-eq, upto-trans}
 use Rattle.agreement.proofs.Same.{same-refl, same-append, same-none}
 use Rattle.agreement.proofs.Update.{ballot-eq, depot-here, depot-other, ballot-here, ballot-other, ballot-each, both-here, both-depot, both-ballot, both-each}
 use Rattle.agreement.proofs.Growth.{rests-grows, stays-moves, mark-up, accepts-up, core-up}
@@ -34,7 +35,7 @@ module _ {E : Type 0} {z : Sizes} where
   begin =
       record {
         accepts = λ b. record { low = upto-refl; here = nothing refl refl; mark = λ n p. absurd (omega arith); none = λ n l. refl };
-        starts = λ n s. absurd (both s refl);
+        starts = λ n s. absurd (not-both s refl);
         empty = λ n s. refl;
       }
 
@@ -42,7 +43,7 @@ module _ {E : Type 0} {z : Sizes} where
     -- ---- a promise is raised
     pub raised : Upto (g .promise b) n → Moved z b g (raise b n g)
     unfolding raise
-    raised u = record { ext = e; core = core-up e c (accepts-up e refl (λ m. refl) (c .accepts b)) (λ m p q. absurd (both q p)) (c .empty) }
+    raised u = record { ext = e; core = core-up e c (accepts-up e refl (λ m. refl) (c .accepts b)) (λ m p q. absurd (not-both q p)) (c .empty) }
       where
         e : Ext b g (raise b n g)
         e =
@@ -61,7 +62,7 @@ module _ {E : Type 0} {z : Sizes} where
           record {
             grows = λ m. record {
               started = ballot-each (λ m t. g .started m ≡ true → t ≡ true) n true (g .started) (λ s. refl) (λ m ne s. s) m;
-              g0 = ballot-each (λ m k. g .started m ≡ true → k ≡ g .g0 m) n (length log) (g .g0) (λ s. absurd (both s new)) (λ m ne s. refl) m;
+              g0 = ballot-each (λ m k. g .started m ≡ true → k ≡ g .g0 m) n (length log) (g .g0) (λ s. absurd (not-both s new)) (λ m ne s. refl) m;
               log = ballot-each (λ m l. Same (length (g .G m)) (g .G m) l) n log (g .G) (rw (c .empty n new) same-none) (λ m ne. same-refl) m;
             };
             rests = λ m ne.
@@ -106,16 +107,16 @@ module _ {E : Type 0} {z : Sizes} where
 
           this : (m : Ballot) → g .started m ≡ false → h .started m ≡ true → (m ≡ n) ⊎ (m ≢ n) → Start z h m
           this m p q (inl k) = subst (Start z h) (sym k) st
-          this m p q (inr k) = absurd (both q (other k ∙ p))
+          this m p q (inr k) = absurd (not-both q (other k ∙ p))
 
           none : (m : Ballot) → h .started m ≡ false → (m ≡ n) ⊎ (m ≢ n) → h .G m ≡ []
-          none m p (inl k) = absurd (both (ballot-here n true (g .started)) (subst (λ x. h .started x ≡ false) k p))
+          none m p (inl k) = absurd (not-both (ballot-here n true (g .started)) (subst (λ x. h .started x ≡ false) k p))
           none m p (inr k) = ballot-other n log (g .G) m k ∙ c .empty m (sym (other k) ∙ p)
 
     -- ---- a ballot's log gains entries
     pub appended : (es : List E) → leaderOf n ≡ b → g .started n ≡ true → Moved z b g (append n es g)
     unfolding append
-    appended es own s = record { ext = e; core = core-up e c (accepts-up e refl (λ m. refl) (c .accepts b)) (λ m p q. absurd (both q p)) none }
+    appended es own s = record { ext = e; core = core-up e c (accepts-up e refl (λ m. refl) (c .accepts b)) (λ m p q. absurd (not-both q p)) none }
       where
         e : Ext b g (append n es g)
         e =
@@ -131,12 +132,12 @@ module _ {E : Type 0} {z : Sizes} where
             }
 
         none : (m : Ballot) → g .started m ≡ false → (append n es g) .G m ≡ []
-        none = ballot-each (λ m l. g .started m ≡ false → l ≡ []) n (g .G n ++ es) (g .G) (λ p. absurd (both s p)) (λ m ne p. c .empty m p)
+        none = ballot-each (λ m l. g .started m ≡ false → l ≡ []) n (g .G n ++ es) (g .G) (λ p. absurd (not-both s p)) (λ m ne p. c .empty m p)
 
     -- ---- a depot accepts
     pub accepted : (k : ℕ) → g .promise b ≡ n → g .started n ≡ true → g .g0 n ≤ k → k ≤ length (g .G n) → g .A b n ≤ k → Moved z b g (accept b n k g)
     unfolding accept
-    accepted k p s l f up = record { ext = e; core = core-up e c acc (λ m p q. absurd (both q p)) (c .empty) }
+    accepted k p s l f up = record { ext = e; core = core-up e c acc (λ m p q. absurd (not-both q p)) (c .empty) }
       where
         h : Ghost E
         h = accept b n k g

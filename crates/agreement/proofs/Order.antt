@@ -6,19 +6,11 @@ use mathlib.Core.Bool.{Bool, true, false}
 use native.Mathlib.Omega.{arith}
 use lib.Dec.{ltb}
 use borrow.Author.Tests.{ltb-true, ltb-false}
+use Rattle.base.proofs.Tests.{not-both}
 use Rattle.ballot.specs.Ballot.{above, default}
 use Rattle.ballot.specs.declared.Ballot.{Ballot}
 use Rattle.ballot.proofs.Laws.{irreflexive, transitive, total, default-lowest}
 use Rattle.agreement.specs.Order.{Below, Upto, Within, lower, level, Beats, higher, longer}
-
--- a test does not both hold and fail
-pub both : {t : Bool} → t ≡ true → t ≡ false → ⊥
-both p q = let w : _≡_ {A = ℕ} 0 1 = cc in omega arith
-
--- a test that cannot hold fails, and one that cannot fail holds
-pub is-false : (t : Bool) → (t ≡ true → ⊥) → t ≡ false
-is-false true p = absurd (p refl)
-is-false false p = refl
 
 pub is-true : (t : Bool) → (t ≡ false → ⊥) → t ≡ true
 is-true true p = refl
@@ -33,7 +25,7 @@ compare m n = go (above n m) refl
     go false e = inr (record { is = e })
 
 pub never : {m n : Ballot} → Below m n → Upto n m → ⊥
-never p q = both (p .is) (q .is)
+never p q = not-both (p .is) (q .is)
 
 pub not-self : {m : Ballot} → Below m m → ⊥
 not-self {m} p = irreflexive m (p .is)
@@ -64,7 +56,7 @@ upto-split {m} {n} p = go (total n m)
     go : (above n m ≡ true) ⊎ ((n ≡ m) ⊎ (above m n ≡ true)) → (m ≡ n) ⊎ Below m n
     go (inl q) = inr (record { is = q })
     go (inr (inl q)) = inl (sym q)
-    go (inr (inr q)) = absurd (both q (p .is))
+    go (inr (inr q)) = absurd (not-both q (p .is))
 
 pub upto-apart : {m n : Ballot} → Upto m n → m ≢ n → Below m n
 upto-apart {m} {n} p ne = go (upto-split p)

@@ -8,6 +8,7 @@ use native.Mathlib.Omega.{arith}
 use native.Mathlib.Nat.{le-refl}
 use lib.ListN.{length, take, drop, take-append-drop}
 use lib.Seq.{take-take, length-take-le}
+use Rattle.base.proofs.Tests.{not-both, is-false}
 use Rattle.ballot.specs.Ballot.{above}
 use Rattle.ballot.specs.declared.Ballot.{Ballot}
 use Rattle.ballot.proofs.Laws.{total}
@@ -17,7 +18,7 @@ use Rattle.agreement.specs.Growth.{Ext, Moved}
 use Rattle.agreement.specs.Moves.{raise}
 use Rattle.agreement.specs.Facts.{Borne, Holds}
 use Rattle.agreement.specs.Report.{Sync, none, from, Brings, Report, Asks, Offer, Answer, Told, Promises}
-use Rattle.agreement.proofs.Order.{both, is-false, never, upto-refl, upto-eq, upto-trans, below-upto, below-apart, within-trans}
+use Rattle.agreement.proofs.Order.{never, upto-refl, upto-eq, upto-trans, below-upto, below-apart, within-trans}
 use Rattle.agreement.proofs.Same.{same-sym, same-trans, same-down, same-whole}
 use Rattle.agreement.proofs.Growth.{mark-below, moves, log-kept, mark-up, mark-fits}
 use Rattle.agreement.proofs.Moves.{raised}
@@ -28,7 +29,7 @@ use Rattle.agreement.proofs.Hold.{holds-low, holds-mark, promised}
 module _ {E : Type 0} {b : ℕ} {g h : Ghost E} (e : Ext b g h) where
   -- what has not started had not started
   pub fresh-before : {n : Ballot} → h .started n ≡ false → g .started n ≡ false
-  fresh-before {n} s = is-false (g .started n) (λ q. both (e .grows n .started q) s)
+  fresh-before {n} s = is-false (g .started n) (λ q. not-both (e .grows n .started q) s)
 
   -- a depot's accepted round stays until it is at least the promise that the depot had
   pub last-up : {n r : Ballot} (c : ℕ) → Upto n (g .promise c) → (g .rnd c ≡ r) ⊎ Upto n (g .rnd c) → (h .rnd c ≡ r) ⊎ Upto n (h .rnd c)

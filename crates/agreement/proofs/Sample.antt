@@ -8,6 +8,7 @@ use native.Mathlib.Omega.{arith}
 use native.Mathlib.Nat.{le-refl}
 use lib.Dec.{ltb}
 use lib.ListN.{length}
+use Rattle.base.proofs.Tests.{not-both}
 use Rattle.base.specs.Count.{countBelow}
 use Rattle.ballot.specs.Ballot.{default}
 use Rattle.ballot.specs.declared.Ballot.{Ballot}
@@ -20,7 +21,7 @@ use Rattle.agreement.specs.Moves.{fresh, raise, start, accept, Begins}
 use Rattle.agreement.specs.Facts.{Part, Holds, Brought, Taken}
 use Rattle.agreement.specs.Stream.{Taker, Feeder, Flow, opens, adds, none as no-items}
 use Rattle.agreement.specs.Report.{none, Report, Told, Promises, Elected, Prepares, Syncs, Led}
-use Rattle.agreement.proofs.Order.{both, upto-of, not-self, within-refl}
+use Rattle.agreement.proofs.Order.{upto-of, not-self, within-refl}
 use Rattle.agreement.proofs.Growth.{longer}
 use Rattle.agreement.proofs.Moves.{begin}
 use Rattle.agreement.proofs.Decided.{chosen-by}
@@ -66,7 +67,7 @@ module _ {E : Type 0} (x : E) where
   unfolding promised
   told zero l t = record { report = report-up (second .moved .ext) (first .report); least = within-refl }
   told (suc zero) l t = record { report = second .answer .report; least = within-refl }
-  told (suc (suc j)) l t = absurd (both t (le-ltb (suc (suc j)) 2 (omega arith)))
+  told (suc (suc j)) l t = absurd (not-both t (le-ltb (suc (suc j)) 2 (omega arith)))
 
   leading : Prepares g₂ 0 n default [] default 0 none
   leading = prepares-up (second .moved .ext) (omega arith) (first .prepares)

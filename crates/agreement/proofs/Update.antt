@@ -5,11 +5,11 @@ use mathlib.Core.Logic.{_⊎_, inl, inr, _≢_}
 use mathlib.Core.Bool.{Bool, true, false, cond}
 use lib.Dec.{eqb}
 use borrow.Author.Tests.{eqb-true, eqb-false, eq-eqb, ne-eqb}
+use Rattle.base.proofs.Tests.{not-both}
 use Rattle.ballot.specs.Ballot.{same}
 use Rattle.ballot.specs.declared.Ballot.{Ballot}
 use Rattle.ballot.proofs.Laws.{same-eq, same-refl}
 use Rattle.agreement.specs.Update.{put, atDepot, atBallot, atBoth}
-use Rattle.agreement.proofs.Order.{both}
 
 -- either two depots are one, or they are not; so of ballots
 pub depot-eq : (c b : ℕ) → (c ≡ b) ⊎ (c ≢ b)
@@ -24,7 +24,7 @@ ballot-eq m n = go (same m n) refl
   where
     go : (t : Bool) → same m n ≡ t → (m ≡ n) ⊎ (m ≢ n)
     go true e = inl (same-eq m n e)
-    go false e = inr (λ q. both (subst (λ k. same m k ≡ true) q (same-refl m)) e)
+    go false e = inr (λ q. not-both (subst (λ k. same m k ≡ true) q (same-refl m)) e)
 
 module _ {X : Type 0} where
   pub depot-here : (b : ℕ) (x : X) (f : ℕ → X) → atDepot b x f b ≡ x

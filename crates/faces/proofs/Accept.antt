@@ -10,6 +10,7 @@ use lib.Dec.{ltb, eqb}
 use lib.ListN.{length, take, length-append}
 use lib.Seq.{take-all}
 use borrow.Author.Tests.{eqb-true}
+use Rattle.base.proofs.Tests.{not-both}
 use Rattle.base.specs.Limits.{maxLog}
 use Rattle.ballot.specs.declared.Ballot.{Ballot}
 use Rattle.sequence.specs.Sequence.{statusOf, oneHigher, notAbove}
@@ -40,7 +41,6 @@ use Rattle.agreement.specs.Order.{leaderOf}
 use Rattle.agreement.specs.Core.{Sizes, Ghost}
 use Rattle.agreement.specs.Report.{Syncs}
 use Rattle.agreement.specs.Stream.{Item, opens, adds, Flow}
-use Rattle.agreement.proofs.Order.{both}
 use Rattle.travels.specs.Face.{Face, item, taker, feeder, feedsIn}
 use Rattle.travels.specs.Facts.{Led, InRole}
 use Rattle.travels.specs.Near.{Scene, Well, Next}
@@ -58,8 +58,8 @@ expected-is own q e = go (oneHigher q own) refl (notAbove q own) e
   where
     two : (s t : Bool) → eqb (q .session) (own .session) ≡ s → eqb (q .counter) (own .counter + 1) ≡ t → (s && t) ≡ true → (q .session ≡ own .session) × (q .counter ≡ suc (own .counter))
     two true true p r k = (eqb-true (q .session) (own .session) p, eqb-true (q .counter) (own .counter + 1) r ∙ add-one (own .counter))
-    two true false p r k = absurd (both k refl)
-    two false t p r k = absurd (both k refl)
+    two true false p r k = absurd (not-both k refl)
+    two false t p r k = absurd (not-both k refl)
 
     go : (t : Bool) → oneHigher q own ≡ t → (u : Bool) → cond t Expected (cond u Outdated DroppedPreceding) ≡ Expected → (q .session ≡ own .session) × (q .counter ≡ suc (own .counter))
     go true p u k = two (eqb (q .session) (own .session)) (eqb (q .counter) (own .counter + 1)) refl refl p
@@ -87,7 +87,7 @@ module _ (conf : Configuration) (q₀ : ℕ) (sight : Sight) (es : List ℕ) (v 
   other-number : (sq : SequenceNumber) (pid : ℕ) (taken : SequencePaxos) → ((sq .session ≡ v .node .«current_seq_num» .session) × (sq .counter ≡ suc (v .node .«current_seq_num» .counter)) → Clean taken → Next z P b c g (midFace es v taken))
       → Clean (ifExpected sq pid taken s) → Next z P b c g (midFace es v (ifExpected sq pid taken s))
   other-number sq pid taken f =
-      either (λ (y : SequencePaxos). Clean y → Next z P b c g (midFace es v y)) (counterAtTop sq s) (atTop s) (byStatus (statusOf (s .«current_seq_num») sq) pid taken s) (λ _ k. absurd (both refl (k .low)))
+      either (λ (y : SequencePaxos). Clean y → Next z P b c g (midFace es v y)) (counterAtTop sq s) (atTop s) (byStatus (statusOf (s .«current_seq_num») sq) pid taken s) (λ _ k. absurd (not-both refl (k .low)))
       (λ _. by (statusOf (s .«current_seq_num») sq) refl)
     where
       by : (x : MessageStatus) → statusOf (s .«current_seq_num») sq ≡ x → Clean (byStatus x pid taken s) → Next z P b c g (midFace es v (byStatus x pid taken s))
@@ -114,7 +114,7 @@ module _ (conf : Configuration) (q₀ : ℕ) (sight : Sight) (es : List ℕ) (v 
     -- whoever has promised another's ballot is no leader
     follows : (r : Role) (ph : Phase) → InRole z g b (v .node .«internal_storage») (v .log) (v .node .«leader_state») (v .best) r ph → v .node .«internal_storage» .promise ≡ n → isAcceptPhase ph ≡ true → isLeader r ≡ false
     follows Follower ph o p e = refl
-    follows Leader phase.Prepare o p e = absurd (both e refl)
+    follows Leader phase.Prepare o p e = absurd (not-both e refl)
     follows Leader phase.Accept o p e = absurd (ne (omega (arith, pid, o .own, ap (λ (k : Ballot). k .pid) (o .now ∙ p))))
     follows Leader phase.Recover o p e = absurd o
     follows Leader phase.None o p e = absurd o
@@ -158,7 +158,7 @@ module _ (conf : Configuration) (q₀ : ℕ) (sight : Sight) (es : List ℕ) (v 
       unfolding acceptsyncTaken acceptsyncPut forwardBuffered syncLog
       synced p =
           either (λ (y : SequencePaxos). Clean y → Next z P b c g (midFace es v y)) (syncUnfit (givenSync m (length es)) (sight .«brought_change») d s) (unfit s) (sendAccepted n (i + length es) sender (following sq (forwardBuffered put)))
-          (λ _ k. absurd (both refl (k .fit)))
+          (λ _ k. absurd (not-both refl (k .fit)))
           (λ _ _. either (λ (y : SequencePaxos). Next z P b c g (midFace es v (sendAccepted n (i + length es) sender (following sq y)))) (eqb (v .node .«buffered_proposals» .len) 0) put
           (cond (hasLeader put) (pushForward source.Buffered (v .node .«buffered_proposals» .len) (setBuffered 0 put)) put) (λ _. ends p)
           (λ _. either (λ (y : SequencePaxos). Next z P b c g (midFace es v (sendAccepted n (i + length es) sender (following sq y)))) (hasLeader put) (pushForward source.Buffered (v .node .«buffered_proposals» .len) (setBuffered 0 put)) put (λ _. sent p) (λ _. ends p)))
@@ -227,8 +227,8 @@ module _ (conf : Configuration) (q₀ : ℕ) (sight : Sight) (es : List ℕ) (v 
         unfolding acceptdecideFit acceptdecideTaken updateDecided appendGiven
         taken-more =
             either (λ (y : SequencePaxos). Clean y → Next z P b c g (midFace es v y)) (eqb (length es) 0) (unfit s) (cond (ltb maxLog (logLength s + length es)) (unfit s) (acceptdecideTaken n d (length es) (setSeq sq s)))
-            (λ _ k. absurd (both refl (k .fit)))
-            (λ _. either (λ (y : SequencePaxos). Clean y → Next z P b c g (midFace es v y)) (ltb maxLog (logLength s + length es)) (unfit s) (acceptdecideTaken n d (length es) (setSeq sq s)) (λ _ k. absurd (both refl (k .fit)))
+            (λ _ k. absurd (not-both refl (k .fit)))
+            (λ _. either (λ (y : SequencePaxos). Clean y → Next z P b c g (midFace es v y)) (ltb maxLog (logLength s + length es)) (unfit s) (acceptdecideTaken n d (length es) (setSeq sq s)) (λ _ k. absurd (not-both refl (k .fit)))
             (λ _ _. either (λ (y : SequencePaxos). Next z P b c g (midFace es v (replyAccepted n (v .node .«internal_storage» .«accepted_idx» + length es) y))) (ltb (v .node .«internal_storage» .«decided_idx») d)
             (setDecided (min d (v .node .«internal_storage» .«accepted_idx» + length es)) grown) grown (λ _. answers (min d (v .node .«internal_storage» .«accepted_idx» + length es)) (inr refl)) (λ _. answers (v .node .«internal_storage» .«decided_idx») (inl refl))))
 

@@ -7,6 +7,7 @@ use native.Mathlib.Omega.{arith}
 use lib.Dec.{ltb, leb}
 use lib.ListN.{length, take, drop}
 use borrow.Author.Tests.{ltb-false}
+use Rattle.base.proofs.Tests.{not-both}
 use Rattle.base.specs.Limits.{maxDepots, largest}
 use Rattle.sequence.specs.declared.SequenceNumber.{SequenceNumber}
 use Rattle.leader_state.specs.declared.Depot.{Depot}
@@ -22,7 +23,6 @@ use Rattle.paxos_box.specs.declared.Source.the-variants as source
 use Rattle.paxos_box.specs.Box.{withLeader as withLeaderBox, unfit, atTop, pushOf, nextPlace}
 use Rattle.sends.specs.Sends.{joinTo, pushAcceptDecide, newAcceptDecide, acceptDecideBy, pushDecide, decideBy, theDepot, onDepot, logLength, suffixLength, syncFits, nextSessionOf, nextSeqNumOf, setLatestOf, newSession, pushAccSync, syncStartOf, sendAccSync}
 use Rattle.views.specs.View.{View}
-use Rattle.agreement.proofs.Order.{both}
 use Rattle.travels.specs.Face.{place, withLeader, push}
 use Rattle.travels.proofs.Open.{Puts, puts-part, opening, opened}
 use Rattle.faces.specs.Mid.{midLog, midFace, Clean, Ready}
@@ -72,7 +72,7 @@ unfolding syncFits
 fits-clean i s = go (ltb (logLength s) i) refl
   where
     go : (t : Bool) → ltb (logLength s) i ≡ t → Clean (cond t (unfit s) s) → (cond t (unfit s) s ≡ s) × (i ≤ logLength s)
-    go true e k = absurd (both refl (k .fit))
+    go true e k = absurd (not-both refl (k .fit))
     go false e k = (refl, ltb-false (logLength s) i e)
 
 session-clean : (to : ℕ) (s : SequencePaxos) → Clean (nextSessionOf to s) → nextSessionOf to s ≡ onDepot to nextSession s
@@ -80,7 +80,7 @@ unfolding nextSessionOf
 session-clean to s = go (leb largest (theDepot to s .«seq_num» .session))
   where
     go : (t : Bool) → Clean (cond t (atTop s) (onDepot to nextSession s)) → cond t (atTop s) (onDepot to nextSession s) ≡ onDepot to nextSession s
-    go true k = absurd (both refl (k .low))
+    go true k = absurd (not-both refl (k .low))
     go false k = refl
 
 pub counter-clean : (to : ℕ) (s : SequencePaxos) → Clean (nextSeqNumOf to s) → nextSeqNumOf to s ≡ onDepot to nextCounter s
@@ -88,7 +88,7 @@ unfolding nextSeqNumOf
 counter-clean to s = go (leb largest (theDepot to s .«seq_num» .counter))
   where
     go : (t : Bool) → Clean (cond t (atTop s) (onDepot to nextCounter s)) → cond t (atTop s) (onDepot to nextCounter s) ≡ onDepot to nextCounter s
-    go true k = absurd (both refl (k .low))
+    go true k = absurd (not-both refl (k .low))
     go false k = refl
 
 clean-next : (to : ℕ) (s : SequencePaxos) → Clean (nextSeqNumOf to s) → Clean s

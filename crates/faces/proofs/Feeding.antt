@@ -11,7 +11,7 @@ use lib.Dec.{ltb}
 use lib.ListN.{length, getD, take, drop}
 use borrow.Author.Tests.{lt-ltb, le-ltb}
 use Rattle.base.specs.Limits.{maxDepots}
-use Rattle.base.proofs.Tests.{same-test}
+use Rattle.base.proofs.Tests.{same-test, not-both}
 use Rattle.ballot.specs.Ballot.{same}
 use Rattle.ballot.specs.declared.Ballot.{Ballot}
 use Rattle.ballot.proofs.Laws.{same-eq, same-refl as same-self}
@@ -29,7 +29,6 @@ use Rattle.sends.specs.declared.Each.the-variants as each
 use Rattle.sends.specs.Sends.{latestAccdec, acceptDecideTo, decideTo, sendOne, turnOf, forMarked}
 use Rattle.views.specs.View.{View}
 use Rattle.agreement.specs.Core.{Sizes, Ghost, Same}
-use Rattle.agreement.proofs.Order.{both}
 use Rattle.agreement.proofs.Update.{ballot-eq, depot-eq}
 use Rattle.agreement.proofs.Same.{same-append}
 use Rattle.travels.specs.Face.{place, feedsBy}
@@ -194,7 +193,7 @@ module _ (es : List ℕ) (v : View) (z : Sizes) {P : ℕ → Type 0} {b : ℕ} {
 
       -- who has not promised is not fed
       not-fed : (u : ℕ) → isPromised (place u l₀ .promise) ≡ false → (t : Bool) → feedsBy n u (s .state) (s .«leader_state») ≡ t → t ≡ false
-      not-fed u e true k = absurd (both (sym (ap isPromised (f .stays .promise u)) ∙ feeds-promised n u (s .state) (s .«leader_state») k) e)
+      not-fed u e true k = absurd (not-both (sym (ap isPromised (f .stays .promise u)) ∙ feeds-promised n u (s .state) (s .«leader_state») k) e)
       not-fed u e false k = refl
 
       whole : (m : Ballot) (u : ℕ) → u < z .depots → (m ≡ n) ⊎ (m ≢ n) → (t : Bool) → isPromised (place u l₀ .promise) ≡ t

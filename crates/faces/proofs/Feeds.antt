@@ -7,6 +7,7 @@ use mathlib.Core.List.{List, [], _∷_, _++_}
 use native.Mathlib.Omega.{arith}
 use native.Mathlib.Numerals.{add-one}
 use lib.ListN.{getD, take, drop, set}
+use Rattle.base.proofs.Tests.{not-both}
 use Rattle.base.specs.Limits.{maxDepots}
 use Rattle.ballot.specs.declared.Ballot.{Ballot}
 use Rattle.ballot.proofs.Laws.{same-refl as same-self}
@@ -34,7 +35,6 @@ use Rattle.outgoing.specs.Perform.{joined, onPlace, performOne}
 use Rattle.views.specs.View.{View, heldEntries, bestTo}
 use Rattle.agreement.specs.Core.{Sizes, Ghost}
 use Rattle.agreement.specs.Stream.{plain, adds}
-use Rattle.agreement.proofs.Order.{both}
 use Rattle.agreement.proofs.Queue.{there-new}
 use Rattle.travels.specs.Face.{place, item, feedsBy, withLeader, withBest, withQueue, push}
 use Rattle.travels.specs.Facts.{Ok, Leading, Remembers, Standing, noMsg}
@@ -222,7 +222,7 @@ module _ (es : List ℕ) (v : View) {z : Sizes} {P : ℕ → Type 0} {b : ℕ} {
         go : (x : Bool) → getD (s .plan .sight .accdec) t false ≡ x → (y : Latest) → place t (s .«leader_state») .latest ≡ y → stands x y ≡ y
         go true p y q = refl
         go false p Nothing q = refl
-        go false p (At i) q = absurd (both (on i q) p)
+        go false p (At i) q = absurd (not-both (on i q) p)
 
     pub told-entries : (from count : ℕ) → take count (drop from (midLog es v (s .plan .writes))) ≡ xs → Clean (acceptDecideTo from count (t + 1) s) → Told es v z P b c g t (suc k) whole′ s (acceptDecideTo from count (t + 1) s) × Clean s
     unfolding acceptDecideTo joinTo

@@ -9,6 +9,7 @@ use native.Mathlib.Numerals.{add-one}
 use lib.Dec.{ltb}
 use lib.ListN.{length, getD}
 use borrow.Author.Tests.{ltb-true, lt-ltb}
+use Rattle.base.proofs.Tests.{not-both}
 use Rattle.base.specs.Limits.{maxDepots}
 use Rattle.ballot.specs.declared.Ballot.{Ballot}
 use Rattle.leader_state.specs.declared.Depot.{Depot}
@@ -28,7 +29,6 @@ use Rattle.sends.specs.Sends.{theDepot, logLength, syncStartOf, pushAccSync, se
 use Rattle.views.specs.View.{View}
 use Rattle.agreement.specs.Order.{leaderOf}
 use Rattle.agreement.specs.Core.{Sizes, Ghost}
-use Rattle.agreement.proofs.Order.{both}
 use Rattle.agreement.proofs.Update.{depot-eq}
 use Rattle.travels.specs.Face.{place, leadsBy, feedsBy}
 use Rattle.travels.specs.Facts.{Leading}
@@ -123,7 +123,7 @@ module _ (es : List ℕ) (v : View) (z : Sizes) {P : ℕ → Type 0} {b : ℕ} {
       less n u q lu ne d e = go d (both-true e)
         where
           go : (n ≢ s .«internal_storage» .promise) ⊎ (u ≢ t) → (feedsBy n u (s .state) (session-box (t + 1) s .«leader_state») ≡ true) × (ltb u (suc t) ≡ true) → (feedsBy n u (s .state) (s .«leader_state») && ltb u t) ≡ true
-          go (inl ne) j = absurd (both (feeds-leads n u (s .state) (session-box (t + 1) s .«leader_state») (j .0)) (leads-other n (s .state) (session-box (t + 1) s .«leader_state») (p .ballot ∙ lead .now) ne))
+          go (inl ne) j = absurd (not-both (feeds-leads n u (s .state) (session-box (t + 1) s .«leader_state») (j .0)) (leads-other n (s .state) (session-box (t + 1) s .«leader_state») (p .ballot ∙ lead .now) ne))
           go (inr ne) j =
               rw (feeds-less-to n u (s .state) (s .«leader_state») (session-box (t + 1) s .«leader_state») (p .ballot) (λ r. sym (ap isPromised (puts-part (λ (d : Depot). d .promise) p refl u)) ∙ r) (j .0), lt-ltb u t (omega (arith, ltb-true u (suc t) (j .1))))
 
@@ -157,7 +157,7 @@ module _ (es : List ℕ) (v : View) (z : Sizes) {P : ℕ → Type 0} {b : ℕ} {
             go : (feedsBy n u (s .state) (s .«leader_state») ≡ true) × (ltb u (suc t) ≡ true) → (u ≡ t) ⊎ (u ≢ t) → (feedsBy n u (s .state) (s .«leader_state») && ltb u t) ≡ true
             go j (inr d) = rw (j .0, lt-ltb u t (omega (arith, ltb-true u (suc t) (j .1))))
             go j (inl d) =
-                absurd (both (sym (ap isPromised (o .stays .promise u)) ∙ feeds-promised n u (s .state) (s .«leader_state») (j .0))
+                absurd (not-both (sym (ap isPromised (o .stays .promise u)) ∙ feeds-promised n u (s .state) (s .«leader_state») (j .0))
                 (subst (λ k. isPromised (place k (s₀ .«leader_state») .promise) ≡ false) (sym d) (unmarked-is (z .depots) t b (s₀ .«leader_state») lt few pid e (λ r. ne (d ∙ r)))))
 
     step : (i : ℕ) → suc i ≤ z .depots → s₀ .«leader_state» .«n_leader» .pid ≡ b + 1 → Opening es v z P b c g s₀ 0 s₀ → Clean (turnOf each.AcceptSync (getD (followersOf z s₀) i false) (suc i) (forMarked (followersOf z s₀) each.AcceptSync i s₀))

@@ -9,6 +9,7 @@ use lib.Dec.{ltb, leb, eqb}
 use lib.ListN.{length, getD, take, length-set}
 use lib.Seq.{getD-set-same, getD-set-other}
 use borrow.Author.Tests.{lt-ltb, ltb-true, ltb-false, leb-true, eqb-true, eqb-false}
+use Rattle.base.proofs.Tests.{not-both}
 use Rattle.base.specs.Limits.{maxDepots}
 use Rattle.base.specs.Lists.{onFirst}
 use Rattle.base.specs.Count.{one, count, countBelow, most}
@@ -32,7 +33,6 @@ use Rattle.leader_state.specs.Promises.{isPromised, decidedState, promisedCount
 use Rattle.leader_state.specs.Places.{acceptedAt, chosen, isFollower, promisedFollowers}
 use Rattle.agreement.specs.Order.{Within, lower, level, Beats, higher, longer}
 use Rattle.agreement.specs.Core.{Sizes}
-use Rattle.agreement.proofs.Order.{both}
 use Rattle.agreement.proofs.Update.{depot-eq}
 use Rattle.travels.specs.Face.{place}
 use Rattle.travels.proofs.Note.{Less as Fewer}
@@ -102,8 +102,8 @@ unfolding above same
 less-above x y e = go (total x y)
   where
     go : (above x y ≡ true) ⊎ ((x ≡ y) ⊎ (above y x ≡ true)) → above y x ≡ true
-    go (inl p) = absurd (both p (ap isAbove e))
-    go (inr (inl p)) = absurd (both (subst (λ k. same x k ≡ true) p (same-self x)) (ap isSame e))
+    go (inl p) = absurd (not-both p (ap isAbove e))
+    go (inr (inl p)) = absurd (not-both (subst (λ k. same x k ≡ true) p (same-self x)) (ap isSame e))
     go (inr (inr p)) = p
 
 pub beats-so : (a c : PromiseMetaData) → beats a c ≡ true → Beats (a .«n_accepted») (a .«accepted_idx») (c .«n_accepted») (c .«accepted_idx»)
@@ -113,14 +113,14 @@ beats-so a c e = go (compareOf (a .«n_accepted») (c .«n_accepted»)) refl e
     go : (o : Order) → compareOf (a .«n_accepted») (c .«n_accepted») ≡ o → byOrder o (ltb (c .«accepted_idx») (a .«accepted_idx»)) ≡ true → Beats (a .«n_accepted») (a .«accepted_idx») (c .«n_accepted») (c .«accepted_idx»)
     go Greater p q = higher (record { is = ap isAbove p })
     go Equal p q = longer (sym (equal-is (a .«n_accepted») (c .«n_accepted») p)) (ltb-true (c .«accepted_idx») (a .«accepted_idx») q)
-    go Less p q = absurd (both q refl)
+    go Less p q = absurd (not-both q refl)
 
 pub beats-not : (a c : PromiseMetaData) → beats a c ≡ false → Within (a .«n_accepted») (a .«accepted_idx») (c .«n_accepted») (c .«accepted_idx»)
 unfolding beats
 beats-not a c e = go (compareOf (a .«n_accepted») (c .«n_accepted»)) refl e
   where
     go : (o : Order) → compareOf (a .«n_accepted») (c .«n_accepted») ≡ o → byOrder o (ltb (c .«accepted_idx») (a .«accepted_idx»)) ≡ false → Within (a .«n_accepted») (a .«accepted_idx») (c .«n_accepted») (c .«accepted_idx»)
-    go Greater p q = absurd (both refl q)
+    go Greater p q = absurd (not-both refl q)
     go Equal p q = level (equal-is (a .«n_accepted») (c .«n_accepted») p) (ltb-false (c .«accepted_idx») (a .«accepted_idx») q)
     go Less p q = lower (record { is = less-above (a .«n_accepted») (c .«n_accepted») p })
 
@@ -173,7 +173,7 @@ pub marked-is : (k t b : ℕ) (l : LeaderState) → t < k → k ≤ maxDepots �
 marked-is k t b l h d p e = go (eqb (t + 1) (l .«n_leader» .pid)) refl (sym (mark-is k t l h d) ∙ e)
   where
     go : (x : Bool) → eqb (t + 1) (l .«n_leader» .pid) ≡ x → cond x false (isPromised (place t l .promise)) ≡ true → (t ≢ b) × (isPromised (place t l .promise) ≡ true)
-    go true q r = absurd (both r refl)
+    go true q r = absurd (not-both r refl)
     go false q r = ((λ s. eqb-false (t + 1) (l .«n_leader» .pid) q (omega arith)), r)
 
 pub unmarked-is : (k t b : ℕ) (l : LeaderState) → t < k → k ≤ maxDepots → l .«n_leader» .pid ≡ b + 1 → getD (promisedFollowers k l) t false ≡ false → t ≢ b → isPromised (place t l .promise) ≡ false

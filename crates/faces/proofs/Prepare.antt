@@ -8,6 +8,7 @@ use lib.Dec.{ltb}
 use lib.ListN.{length, take, drop, length-drop}
 use lib.Seq.{take-all, take-take}
 use borrow.Author.Tests.{ltb-false, le-ltb}
+use Rattle.base.proofs.Tests.{not-both}
 use Rattle.ballot.specs.Ballot.{above, same}
 use Rattle.ballot.specs.declared.Ballot.{Ballot}
 use Rattle.ballot.proofs.Laws.{same-eq, same-refl as same-self}
@@ -30,7 +31,7 @@ use Rattle.decide_laws.proofs.Grown.{either}
 use Rattle.agreement.specs.Order.{Below, Upto}
 use Rattle.agreement.specs.Core.{Sizes, Ghost}
 use Rattle.agreement.specs.Report.{from, Asks, Answer}
-use Rattle.agreement.proofs.Order.{both, upto-of, upto-eq, below-apart}
+use Rattle.agreement.proofs.Order.{upto-of, upto-eq, below-apart}
 use Rattle.travels.specs.Face.{Face}
 use Rattle.travels.specs.Near.{Scene, Well, Next}
 use Rattle.travels.proofs.Follow.{promisedTo, t-promised}
@@ -114,7 +115,7 @@ module _ (conf : Configuration) (q : ℕ) (sight : Sight) (es : List ℕ) (v : V
     tells i hi lo =
         either (λ (k : SequencePaxos). Clean (sendPromise sender (promiseOf (x i) (promiseTo (m .n) s)) (logSource (x i)) (cachePromise (x i) k)) → Next z P b c g (midFace es v (sendPromise sender (promiseOf (x i) (promiseTo (m .n) s)) (logSource (x i)) (cachePromise (x i) k))))
         (ltb (logLength s) i) (unfit (promiseTo (m .n) s)) (promiseTo (m .n) s)
-        (λ _ k. absurd (both refl (clean-push _ (cachePromise (x i) (unfit (promiseTo (m .n) s))) k .fit)))
+        (λ _ k. absurd (not-both refl (clean-push _ (cachePromise (x i) (unfit (promiseTo (m .n) s))) k .fit)))
         (λ e _. told-held i (omega (arith, ltb-false (logLength s) i e, cnt .log)) hi lo)
 
     -- none
@@ -127,12 +128,12 @@ module _ (conf : Configuration) (q : ℕ) (sight : Sight) (es : List ℕ) (v : V
     prepared = higher (above r (m .«n_accepted»)) refl
       where
         longer : above r (m .«n_accepted») ≡ false → (t : Bool) → ltb (m .«accepted_idx») (logLength s) ≡ t → Told (cond t (logFrom (m .«accepted_idx») s) Nothing)
-        longer ne true e = tells (m .«accepted_idx») (λ l. absurd (both (l .is) ne)) (λ _ _. refl)
-        longer ne false e = tells-none (λ l. both (l .is) ne) (λ _ l. omega (arith, ltb-false (m .«accepted_idx») (logLength s) e, cnt .log))
+        longer ne true e = tells (m .«accepted_idx») (λ l. absurd (not-both (l .is) ne)) (λ _ _. refl)
+        longer ne false e = tells-none (λ l. not-both (l .is) ne) (λ _ l. omega (arith, ltb-false (m .«accepted_idx») (logLength s) e, cnt .log))
 
         level : above r (m .«n_accepted») ≡ false → (t : Bool) → same r (m .«n_accepted») ≡ t → Told (cond t (cond (ltb (m .«accepted_idx») (logLength s)) (logFrom (m .«accepted_idx») s) Nothing) Nothing)
         level ne true e = longer ne (ltb (m .«accepted_idx») (logLength s)) refl
-        level ne false e = tells-none (λ l. both (l .is) ne) (λ q _. both (subst (λ k. same r k ≡ true) (sym q) (same-self r)) e)
+        level ne false e = tells-none (λ l. not-both (l .is) ne) (λ q _. not-both (subst (λ k. same r k ≡ true) (sym q) (same-self r)) e)
 
         higher : (t : Bool) → above r (m .«n_accepted») ≡ t → Told (cond t (logFrom (m .«decided_idx») s) (cond (same r (m .«n_accepted»)) (cond (ltb (m .«accepted_idx») (logLength s)) (logFrom (m .«accepted_idx») s) Nothing) Nothing))
         higher true e = tells (m .«decided_idx») (λ _. refl) (λ q _. absurd (below-apart (record { is = e }) q))

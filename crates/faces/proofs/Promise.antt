@@ -9,6 +9,7 @@ use lib.Dec.{ltb, eqb}
 use lib.ListN.{length, take, length-append, length-take}
 use lib.Seq.{take-take}
 use borrow.Author.Tests.{ne-eqb}
+use Rattle.base.proofs.Tests.{not-both}
 use Rattle.base.specs.Limits.{maxDepots, maxLog}
 use Rattle.base.specs.Count.{countBelow}
 use Rattle.ballot.specs.Ballot.{same}
@@ -46,10 +47,10 @@ use Rattle.follower.specs.Follower.{countOf}
 use Rattle.outgoing.specs.Perform.{performAll}
 use Rattle.views.specs.View.{View, heldEntries, logTo, bestTo, Counted}
 use Rattle.decide_laws.proofs.Grown.{either}
+use Rattle.step_laws.proofs.Written.{kept-le}
 use Rattle.agreement.specs.Order.{leaderOf}
 use Rattle.agreement.specs.Core.{Sizes, Ghost}
 use Rattle.agreement.specs.Report.{putOn, startOf, Report, Answer}
-use Rattle.agreement.proofs.Order.{both}
 use Rattle.agreement.proofs.All.{all-take}
 use Rattle.travels.specs.Face as face
 use Rattle.travels.specs.Face.{Face, place, syncOf, feedsBy}
@@ -84,7 +85,7 @@ unfolding syncLog
 syncs-clean hi end op s = go (ltb end hi)
   where
     go : (t : Bool) → Clean (cond t (unfit s) (syncLog (s .«leader_state» .«n_leader») hi end op s)) → (cond t (unfit s) (syncLog (s .«leader_state» .«n_leader») hi end op s) ≡ syncLog (s .«leader_state» .«n_leader») hi end op s) × Clean s
-    go true k = absurd (both refl (k .fit))
+    go true k = absurd (not-both refl (k .fit))
     go false k = (refl, record { fit = k .fit; low = k .low })
 
 puts-clean : (h : HeldSync) (t : Bool) (hi : ℕ) (s : SequencePaxos) → Clean (syncBy h t hi s) → (syncBy h t hi s ≡ syncLog (s .«leader_state» .«n_leader») hi (endOf h (logLength s)) (opOf t h) s) × Clean s
@@ -93,7 +94,7 @@ puts-clean Nothing t hi s k = syncs-clean hi (logLength s) Keep s k
 puts-clean (Held x) t hi s k = go (syncUnfit x (changeOf t s) (s .«leader_state» .«max_promise» .meta .«decided_idx») s) k
   where
     go : (u : Bool) → Clean (cond u (unfit s) (leaderSyncs hi (syncEnd x) (putOp t x) s)) → (cond u (unfit s) (leaderSyncs hi (syncEnd x) (putOp t x) s) ≡ syncLog (s .«leader_state» .«n_leader») hi (syncEnd x) (putOp t x) s) × Clean s
-    go true k = absurd (both refl (k .fit))
+    go true k = absurd (not-both refl (k .fit))
     go false k = syncs-clean hi (syncEnd x) (putOp t x) s k
 
 -- what the operation makes of the log is what the sync does
@@ -105,10 +106,6 @@ put-log (Held x) false es best log = refl
 put-end : (h : HeldSync) (l log : List ℕ) → length (heldEntries h l) ≡ countOf h → startOf (syncOf h (heldEntries h l)) ≤ length log → length (putOn (syncOf h (heldEntries h l)) log) ≡ endOf h (length log)
 put-end Nothing l log e c = refl
 put-end (Held x) l log e c = omega (arith, length-append (take (x .«sync_idx») log) (take (x .len) l), length-take (x .«sync_idx») log, e)
-
-kept-few : (waiting len : ℕ) → keptOf waiting len ≤ waiting
-unfolding keptOf
-kept-few waiting len = either (λ (n : ℕ). n ≤ waiting) (ltb maxLog len) 0 (min waiting (maxLog - len)) (λ _. omega arith) (λ _. omega arith)
 
 module _ (quo : Quorum) (q₀ : ℕ) (sight : Sight) (es : List ℕ) (v : View) (cnt : Counted v) {z : Sizes} {P : ℕ → Type 0} {b : ℕ} {c : Scene} {g : Ghost ℕ} (few : z .depots ≤ maxDepots) (bl : b < z .depots) (rs : readSize quo ≡ z .read) (w : Well z P b c g (faceOf v))
     (f : ℕ) (fl : f < z .depots) (m : PromiseMetaData) (pid : m .pid ≡ f + 1) (sync : HeldSync) (full : countOf sync ≤ length es)
@@ -235,7 +232,7 @@ module _ (quo : Quorum) (q₀ : ℕ) (sight : Sight) (es : List ℕ) (v : View) 
       size =
           let a : length (putOn (syncOf (best .sync) held) (v .log)) ≡ endOf (best .sync) (length (v .log)) = put-end (best .sync) (cond t es (v .best)) (v .log) held-size (p .prepares .brings .cut) in
           let d : endOf (best .sync) (length (v .log)) ≡ end = ap (endOf (best .sync)) (cnt .log) in
-          omega (arith, a, d, ap length log-is, length-append (putOn (syncOf (best .sync) held) (v .log)) (take kept (v .buffered)), length-take kept (v .buffered), cnt .buffered, kept-few (v .node .«buffered_proposals» .len) end)
+          omega (arith, a, d, ap length log-is, length-append (putOn (syncOf (best .sync) held) (v .log)) (take kept (v .buffered)), length-take kept (v .buffered), cnt .buffered, kept-le (v .node .«buffered_proposals» .len) end)
 
       face-y : midFace es v (y put) ≡ startedTo (l .«n_leader») (max (v .node .«internal_storage» .«decided_idx») hi) log (end + kept) l₂ (faceOf v)
       unfolding syncLog appendBuffered performAll
@@ -291,7 +288,7 @@ module _ (quo : Quorum) (q₀ : ℕ) (sight : Sight) (es : List ℕ) (v : View) 
     puts = session-puts es v f m keptA (nearA .node .row) (omega arith)
 
     less : (n : Ballot) (u : ℕ) → leaderOf n ≡ b → u < z .depots → u ≢ b → (n ≢ v .node .«internal_storage» .promise) ⊎ (u ≢ f) → feedsBy n u (v .node .state) (session-box (f + 1) keptA .«leader_state») ≡ true → fed₁ n u ≡ true
-    less n u q lu ne (inl d) e = absurd (both (feeds-leads n u (v .node .state) (session-box (f + 1) keptA .«leader_state») e) (leads-other n (v .node .state) (session-box (f + 1) keptA .«leader_state») (puts .ballot ∙ lead .now) d))
+    less n u q lu ne (inl d) e = absurd (not-both (feeds-leads n u (v .node .state) (session-box (f + 1) keptA .«leader_state») e) (leads-other n (v .node .state) (session-box (f + 1) keptA .«leader_state») (puts .ballot ∙ lead .now) d))
     less n u q lu ne (inr d) e =
         rw (feeds-less-to n u (v .node .state) l (session-box (f + 1) keptA .«leader_state») (puts .ballot) (λ r. sym (ap (λ (k : Depot). isPromised (k .promise)) (puts .else u d ∙ keeps (l .«max_promise») .else u d)) ∙ r) e, ne-eqb u f d)
 
@@ -315,10 +312,10 @@ module _ (quo : Quorum) (q₀ : ℕ) (sight : Sight) (es : List ℕ) (v : View) 
   in-role : (r : Role) (p : Phase) → v .node .state .role ≡ r → v .node .state .phase ≡ p → Clean (promiseIn (standingOf r p) m sync s) → Next z P b c g (midFace es v (promiseIn (standingOf r p) m sync s))
   unfolding handlePromisePrepare handlePromiseAccept
   in-role Leader phase.Prepare e f k =
-      either (λ (k : SequencePaxos). Clean k → Next z P b c g (midFace es v k)) (bringsPast sync) (unfit s) (handlePromisePrepare m sync s) (λ _ k. absurd (both refl (k .fit)))
+      either (λ (k : SequencePaxos). Clean k → Next z P b c g (midFace es v k)) (bringsPast sync) (unfit s) (handlePromisePrepare m sync s) (λ _ k. absurd (not-both refl (k .fit)))
       (λ _. in-prepare (state-is (v .node .state) e f) (beatsBest m l) refl) k
   in-role Leader phase.Accept e f k =
-      either (λ (k : SequencePaxos). Clean k → Next z P b c g (midFace es v k)) (bringsPast sync) (unfit s) (handlePromiseAccept m s) (λ _ k. absurd (both refl (k .fit)))
+      either (λ (k : SequencePaxos). Clean k → Next z P b c g (midFace es v k)) (bringsPast sync) (unfit s) (handlePromiseAccept m s) (λ _ k. absurd (not-both refl (k .fit)))
       (λ _. in-accept (state-is (v .node .state) e f)) k
   in-role Leader phase.Recover e f k = rest
   in-role Leader phase.None e f k = rest

@@ -9,6 +9,7 @@ use lib.Dec.{ltb, leb}
 use lib.ListN.{length, getD, take, drop, length-append}
 use lib.Seq.{take-all, drop-append-seam}
 use borrow.Author.Tests.{ltb-false}
+use Rattle.base.proofs.Tests.{not-both}
 use Rattle.base.specs.Limits.{maxDepots}
 use Rattle.base.specs.Count.{countBelow}
 use Rattle.ballot.specs.Ballot.{above, same}
@@ -45,7 +46,6 @@ use Rattle.views.specs.View.{View, Counted}
 use Rattle.decide_laws.proofs.Grown.{either}
 use Rattle.agreement.specs.Core.{Sizes, Ghost}
 use Rattle.agreement.specs.All.{All}
-use Rattle.agreement.proofs.Order.{both}
 use Rattle.agreement.proofs.Update.{ballot-eq, depot-eq}
 use Rattle.agreement.proofs.All.{all-append, all-take}
 use Rattle.travels.specs.Face.{place, feedsBy, withBuffered}
@@ -277,7 +277,7 @@ module _ (quo : Quorum) (q₀ : ℕ) (sight : Sight) (es : List ℕ) (v : View) 
       accepted : Clean (acceptedTaken idx (f + 1) s) → Next z P b c g (midFace es v (acceptedTaken idx (f + 1) s))
       unfolding acceptedTaken decideIfChosen newlyChosen
       accepted =
-          either (λ (y : SequencePaxos). Clean y → Next z P b c g (midFace es v y)) (ltb (logLength s) idx) (unfit s) (decideIfChosen idx noted) (λ _ q. absurd (both refl (q .fit)))
+          either (λ (y : SequencePaxos). Clean y → Next z P b c g (midFace es v y)) (ltb (logLength s) idx) (unfit s) (decideIfChosen idx noted) (λ _ q. absurd (not-both refl (q .fit)))
           (λ e. decides (omega (arith, ltb-false (logLength s) idx e)) (ltb (v .node .«internal_storage» .«decided_idx») idx))
         where
           decides : idx ≤ v .node .«internal_storage» .«accepted_idx» → (t : Bool)

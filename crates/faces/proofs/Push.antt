@@ -26,6 +26,7 @@ use Rattle.sends.specs.Sends.{sendNew}
 use Rattle.follower.specs.Follower.{countOf}
 use Rattle.broken.specs.Broken.{cachedSync, bestSync}
 use Rattle.outgoing.specs.Queue.{Msg}
+use Rattle.outgoing.proofs.Steps.{step-longer}
 use Rattle.outgoing.specs.Perform.{Sources, sourceOf, entriesOf, onPlace, doneTo, performOne, performAll, itemsOf}
 use Rattle.views.specs.View.{View, heldEntries, Counted}
 use Rattle.travels.specs.Face.{Face, withQueue, push}
@@ -57,21 +58,6 @@ perform-end f [] m q = refl
 perform-end f (x ∷ ms) m q = perform-end f ms m (performOne f x q)
 
 -- a queue after one thing more: a new message, or as many as before
-length-place : {A : Type 0} (k : ℕ) (f : A → A) (l : List A) → length (onPlace k f l) ≡ length l
-unfolding onPlace
-length-place k f [] = refl
-length-place zero f (x ∷ l) = refl
-length-place (suc k) f (x ∷ l) = ap suc (length-place k f l)
-
-length-one : (f : Sources) (m : Send) (q : List Msg) → length (performOne f m q) ≡ length q + isNew (m .what)
-unfolding performOne
-length-one f m q = go (m .what)
-  where
-    go : (w : Sent) → length (doneTo w (m .to) (entriesOf f m) q) ≡ length q + isNew w
-    go (New x) = length-append q _
-    go (Join j) = length-place (j .at) _ q ∙ omega arith
-    go (Raise r) = length-place (r .at) _ q ∙ omega arith
-
 module _ (es : List ℕ) (v : View) where
   pub face-push : {k : ℕ} (m : Send) (s : SequencePaxos) → Ready k es v s → k < 8 → midFace es v (pushOf m s) ≡ withQueue (performOne (midSources es v (s .plan .writes)) m (midFace es v s .queue)) (midFace es v s)
   face-push m s r h =
@@ -84,7 +70,7 @@ module _ (es : List ℕ) (v : View) where
       record {
         things = rw (push-is m s (omega (arith, r .things))) (omega (arith, r .things));
         room = rw (push-is m s (omega (arith, r .things))) (length-set (s .plan .sends .items) (s .plan .sends .count) m ∙ r .room);
-        queue = ap (λ (x : Face). length (x .queue)) (face-push m s r h) ∙ length-one (midSources es v (s .plan .writes)) m (midFace es v s .queue) ∙ count;
+        queue = ap (λ (x : Face). length (x .queue)) (face-push m s r h) ∙ step-longer (midSources es v (s .plan .writes)) m (midFace es v s .queue) ∙ count;
       }
     where
       count : length (midFace es v s .queue) + isNew (m .what) ≡ nextPlace (pushOf m s)

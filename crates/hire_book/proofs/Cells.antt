@@ -8,13 +8,10 @@ use lib.Dec.{eqb}
 use lib.ListN.{length, getD, set, length-set}
 use lib.Seq.{getD-set-same, getD-set-other}
 use borrow.Author.Tests.{eqb-true, eqb-false, leb-true}
+use Rattle.base.proofs.Tests.{both}
 use Rattle.base.specs.Limits.{pumps}
 use Rattle.hire_book.specs.Book.{bookLength, cells, lastBackAt, openOutAt, chargedAt, lastBack, openOut, charged, placeOf, entered}
 use Rattle.hire_book.specs.Hire.{counts, outKind, backKind}
-
-pub both : (a b : Bool) → (a && b) ≡ true → (a ≡ true) × (b ≡ true)
-both true b e = (refl, e)
-both false b e = absurd (let z : _≡_ {A = ℕ} 0 1 = cc in omega arith)
 
 -- an out is written, and a back
 abbrev pub outBook : ℕ → ℕ → List ℕ → List ℕ

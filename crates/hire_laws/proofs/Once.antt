@@ -7,8 +7,8 @@ use native.Mathlib.Decide.{ℕ-discrete, decLt}
 use native.Mathlib.Omega.{arith}
 use lib.Dec.{eqb, leb}
 use borrow.Author.Tests.{eq-eqb, ne-eqb, leb-true}
+use Rattle.base.proofs.Tests.{both}
 use Rattle.base.specs.Count.{count}
-use Rattle.hire_book.proofs.Cells.{both}
 use Rattle.hire_book.specs.Hire.{Place, yard, away, Places, start, outKind, backKind, counts, placeAfter, placesAfter, pumpOf, kindOf, dayOf, hiresBy, hiresFrom, pairsOfAll, chargesOf, times}
 use Rattle.hire_laws.proofs.Count.{count-append}
 use Rattle.hire_laws.proofs.Pairs.{pairs-append, times-le-days, spread}

@@ -8,6 +8,7 @@ use native.Mathlib.Omega.{arith}
 use lib.Dec.{ltb}
 use lib.ListN.{length}
 use borrow.Author.Tests.{ltb-true, ltb-false}
+use Rattle.base.proofs.Tests.{not-both, is-false}
 use Rattle.base.specs.Limits.{maxLog, maxBuffered, maxMessages, maxStore, maxDepots}
 use Rattle.quorum.specs.declared.Configuration.{Configuration}
 use Rattle.messages.specs.declared.Event.{Event}
@@ -16,7 +17,6 @@ use Rattle.sequence_paxos.specs.Decide.{taken, decideOf}
 use Rattle.decide_laws.proofs.Table.{QueuePassed, Fits, Given, is-unfit, at-top, past-log, past-buffer, past-queue, all-fit, given-exactly}
 use Rattle.decide_laws.proofs.Five.{TakesPast, five-exactly}
 use Rattle.table_laws.specs.Words.{Unfits, Tops}
-use Rattle.table_laws.proofs.Flagged.{opposite, is-false}
 use Rattle.table_laws.proofs.Exactly.{four-exactly, seven-exactly}
 use Rattle.unfit.specs.Unfit.{strangerOf, unfitOf}
 use Rattle.broken.specs.Broken.{recordBroken}
@@ -88,10 +88,10 @@ module _ (c : Configuration) (e : Event) (entries : List ℕ) (w : World) (seats
 
   past-four : First c e entries w → (Unfits e (length entries) (found c e entries w) → ⊥) → PastFour c e entries w
   past-four n h =
-      record { not-1 = λ x. opposite _ x (n .one); not-2 = λ x. opposite _ x (n .two); not-3 = λ x. opposite _ x (n .three); not-4 = by }
+      record { not-1 = λ x. not-both x (n .one); not-2 = λ x. not-both x (n .two); not-3 = λ x. not-both x (n .three); not-4 = by }
     where
       by : IsUnfit c e entries w → ⊥
-      by (inl x) = opposite _ x (n .four)
+      by (inl x) = not-both x (n .four)
       by (inr x) = h x
 
   -- deciding's row is the step's
@@ -114,7 +114,7 @@ module _ (c : Configuration) (e : Event) (entries : List ℕ) (w : World) (seats
       four-past n q h = past-four f (not-unfit e k s y t n q h)
 
       by : (n : ℕ) → decideOf e k s .no ≡ n → Given (outcomeOf c e entries w) n → Row c e entries w n
-      by n q (is-unfit pu) = row-4 (λ x. opposite _ x (f .one)) (λ x. opposite _ x (f .two)) (λ x. opposite _ x (f .three)) (inr (four e k s y t .0 q))
+      by n q (is-unfit pu) = row-4 (λ x. not-both x (f .one)) (λ x. not-both x (f .two)) (λ x. not-both x (f .three)) (inr (four e k s y t .0 q))
       by n q (at-top pu pt) = row-7 (four-past 7 q (λ x. omega arith)) (seven e k s y t .0 q .1)
       by n q (past-log pu pt pl) = row-5 (four-past 5 q (λ x. omega arith)) (not-top e k s y t 5 q (λ x. omega arith) (λ x. omega arith)) (five e k s y t .0 q .2)
       by n q (past-buffer pu pt pl pb) =
@@ -128,11 +128,11 @@ module _ (c : Configuration) (e : Event) (entries : List ℕ) (w : World) (seats
   first-row : (a b d g : Bool) → callOff c (w .lists) ≡ a → recordBroken c (w .node) (w .row) (w .lists) ≡ b → strangerOf c e ≡ d → unfitOf c e entries ≡ g → Row c e entries w (stepOf c e entries w .answer .no)
   first-row true b d g pa pb pd pg = subst (Row c e entries w) (sym (number-first c e entries w 1 (λ x. omega arith) (refused-1 c (w .node) (w .row) (w .lists) e entries .1 pa))) (row-1 pa)
   first-row false true d g pa pb pd pg =
-      subst (Row c e entries w) (sym (number-first c e entries w 2 (λ x. omega arith) (refused-2 c (w .node) (w .row) (w .lists) e entries .1 (pa, pb)))) (row-2 (λ x. opposite _ x pa) pb)
+      subst (Row c e entries w) (sym (number-first c e entries w 2 (λ x. omega arith) (refused-2 c (w .node) (w .row) (w .lists) e entries .1 (pa, pb)))) (row-2 (λ x. not-both x pa) pb)
   first-row false false true g pa pb pd pg =
-      subst (Row c e entries w) (sym (number-first c e entries w 3 (λ x. omega arith) (refused-3 c (w .node) (w .row) (w .lists) e entries .1 (pa, pb, pd)))) (row-3 (λ x. opposite _ x pa) (λ x. opposite _ x pb) pd)
+      subst (Row c e entries w) (sym (number-first c e entries w 3 (λ x. omega arith) (refused-3 c (w .node) (w .row) (w .lists) e entries .1 (pa, pb, pd)))) (row-3 (λ x. not-both x pa) (λ x. not-both x pb) pd)
   first-row false false false true pa pb pd pg =
-      subst (Row c e entries w) (sym (number-first c e entries w 4 (λ x. omega arith) (refused-4 c (w .node) (w .row) (w .lists) e entries .1 (pa, pb, pd, pg)))) (row-4 (λ x. opposite _ x pa) (λ x. opposite _ x pb) (λ x. opposite _ x pd) (inl pg))
+      subst (Row c e entries w) (sym (number-first c e entries w 4 (λ x. omega arith) (refused-4 c (w .node) (w .row) (w .lists) e entries .1 (pa, pb, pd, pg)))) (row-4 (λ x. not-both x pa) (λ x. not-both x pb) (λ x. not-both x pd) (inl pg))
   first-row false false false false pa pb pd pg =
       let f : First c e entries w = record { one = pa; two = pb; three = pd; four = pg } in
       let z = refused-none c (w .node) (w .row) (w .lists) e entries .1 f in
@@ -156,7 +156,7 @@ module _ (c : Configuration) (e : Event) (entries : List ℕ) (w : World) (seats
     where
       by : (g : Bool) → unfitOf c e entries ≡ g → IsUnfit c e entries w → stepOf c e entries w .answer .no ≡ 4
       by true pg x = number-first c e entries w 4 (λ x. omega arith) (refused-4 c (w .node) (w .row) (w .lists) e entries .1 (pa, pb, pd, pg))
-      by false pg (inl x) = absurd (opposite _ x pg)
+      by false pg (inl x) = absurd (not-both x pg)
       by false pg (inr x) =
           let z = refused-none c (w .node) (w .row) (w .lists) e entries .1 (record { one = pa; two = pb; three = pd; four = pg }) in
           number-decided c e entries w z ∙ four e (length entries) (found c e entries w) (is-ready z) (has-seats z) .1 x

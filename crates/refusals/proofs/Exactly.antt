@@ -5,6 +5,7 @@ use mathlib.Core.Bool.{Bool, true, false}
 use mathlib.Core.List.{List}
 use mathlib.Core.Logic.{_↔_}
 use native.Mathlib.Omega.{arith}
+use Rattle.base.proofs.Tests.{not-both}
 use Rattle.quorum.specs.declared.Configuration.{Configuration}
 use Rattle.messages.specs.declared.Row.{Row}
 use Rattle.messages.specs.declared.Event.{Event}
@@ -13,10 +14,6 @@ use Rattle.unfit.specs.Unfit.{strangerOf, unfitOf}
 use Rattle.broken.specs.Lent.{Lent}
 use Rattle.broken.specs.Broken.{recordBroken}
 use Rattle.refusals.specs.Refusals.{callOff, firstOf, refusalOf}
-
--- a test cannot both hold and not hold
-pub clash : {A : Type 0} {b : Bool} → b ≡ true → b ≡ false → A
-clash p q = absurd (let w : _≡_ {A = ℕ} 0 1 = cc in omega arith)
 
 -- no test of a row holds
 pub record None (a b c d : Bool) : Type 0 where
@@ -34,37 +31,37 @@ first-le false false false false = omega arith
 
 first-one : (a b c d : Bool) → (firstOf a b c d ≡ 1) ↔ (a ≡ true)
 first-one true b c d = ((λ e. refl), (λ e. refl))
-first-one false true c d = ((λ e. absurd (omega arith)), (λ e. clash e refl))
-first-one false false true d = ((λ e. absurd (omega arith)), (λ e. clash e refl))
-first-one false false false true = ((λ e. absurd (omega arith)), (λ e. clash e refl))
-first-one false false false false = ((λ e. absurd (omega arith)), (λ e. clash e refl))
+first-one false true c d = ((λ e. absurd (omega arith)), (λ e. not-both e refl))
+first-one false false true d = ((λ e. absurd (omega arith)), (λ e. not-both e refl))
+first-one false false false true = ((λ e. absurd (omega arith)), (λ e. not-both e refl))
+first-one false false false false = ((λ e. absurd (omega arith)), (λ e. not-both e refl))
 
 first-two : (a b c d : Bool) → (firstOf a b c d ≡ 2) ↔ ((a ≡ false) × (b ≡ true))
-first-two true b c d = ((λ e. absurd (omega arith)), (λ p. clash refl (p .0)))
+first-two true b c d = ((λ e. absurd (omega arith)), (λ p. not-both refl (p .0)))
 first-two false true c d = ((λ e. (refl, refl)), (λ p. refl))
-first-two false false true d = ((λ e. absurd (omega arith)), (λ p. clash (p .1) refl))
-first-two false false false true = ((λ e. absurd (omega arith)), (λ p. clash (p .1) refl))
-first-two false false false false = ((λ e. absurd (omega arith)), (λ p. clash (p .1) refl))
+first-two false false true d = ((λ e. absurd (omega arith)), (λ p. not-both (p .1) refl))
+first-two false false false true = ((λ e. absurd (omega arith)), (λ p. not-both (p .1) refl))
+first-two false false false false = ((λ e. absurd (omega arith)), (λ p. not-both (p .1) refl))
 
 first-three : (a b c d : Bool) → (firstOf a b c d ≡ 3) ↔ ((a ≡ false) × (b ≡ false) × (c ≡ true))
-first-three true b c d = ((λ e. absurd (omega arith)), (λ p. clash refl (p .0)))
-first-three false true c d = ((λ e. absurd (omega arith)), (λ p. clash refl (p .1)))
+first-three true b c d = ((λ e. absurd (omega arith)), (λ p. not-both refl (p .0)))
+first-three false true c d = ((λ e. absurd (omega arith)), (λ p. not-both refl (p .1)))
 first-three false false true d = ((λ e. (refl, refl, refl)), (λ p. refl))
-first-three false false false true = ((λ e. absurd (omega arith)), (λ p. clash (p .2) refl))
-first-three false false false false = ((λ e. absurd (omega arith)), (λ p. clash (p .2) refl))
+first-three false false false true = ((λ e. absurd (omega arith)), (λ p. not-both (p .2) refl))
+first-three false false false false = ((λ e. absurd (omega arith)), (λ p. not-both (p .2) refl))
 
 first-four : (a b c d : Bool) → (firstOf a b c d ≡ 4) ↔ ((a ≡ false) × (b ≡ false) × (c ≡ false) × (d ≡ true))
-first-four true b c d = ((λ e. absurd (omega arith)), (λ p. clash refl (p .0)))
-first-four false true c d = ((λ e. absurd (omega arith)), (λ p. clash refl (p .1)))
-first-four false false true d = ((λ e. absurd (omega arith)), (λ p. clash refl (p .2)))
+first-four true b c d = ((λ e. absurd (omega arith)), (λ p. not-both refl (p .0)))
+first-four false true c d = ((λ e. absurd (omega arith)), (λ p. not-both refl (p .1)))
+first-four false false true d = ((λ e. absurd (omega arith)), (λ p. not-both refl (p .2)))
 first-four false false false true = ((λ e. (refl, refl, refl, refl)), (λ p. refl))
-first-four false false false false = ((λ e. absurd (omega arith)), (λ p. clash (p .3) refl))
+first-four false false false false = ((λ e. absurd (omega arith)), (λ p. not-both (p .3) refl))
 
 first-none : (a b c d : Bool) → (firstOf a b c d ≡ 0) ↔ None a b c d
-first-none true b c d = ((λ e. absurd (omega arith)), (λ p. clash refl (p .one)))
-first-none false true c d = ((λ e. absurd (omega arith)), (λ p. clash refl (p .two)))
-first-none false false true d = ((λ e. absurd (omega arith)), (λ p. clash refl (p .three)))
-first-none false false false true = ((λ e. absurd (omega arith)), (λ p. clash refl (p .four)))
+first-none true b c d = ((λ e. absurd (omega arith)), (λ p. not-both refl (p .one)))
+first-none false true c d = ((λ e. absurd (omega arith)), (λ p. not-both refl (p .two)))
+first-none false false true d = ((λ e. absurd (omega arith)), (λ p. not-both refl (p .three)))
+first-none false false false true = ((λ e. absurd (omega arith)), (λ p. not-both refl (p .four)))
 first-none false false false false = ((λ e. record { one = refl; two = refl; three = refl; four = refl }), (λ p. refl))
 
 module _ (c : Configuration) (r : Record) (row : Row) (l : Lent) (e : Event) (entries : List ℕ) where

@@ -6,6 +6,7 @@ use mathlib.Core.Bool.{Bool, true, false, cond, _&&_, _||_, not}
 use mathlib.Core.List.{List, [], _∷_, _++_}
 use lib.Dec.{ltb, leb, eqb}
 use borrow.Author.Tests.{lt-ltb, le-ltb, leb-true, leb-false, ltb-true, ltb-false}
+use Rattle.base.proofs.Tests.{both}
 use Rattle.base.specs.Limits.{maxEntry, largest}
 use Rattle.decimal.specs.Digits.{allDigits, valueOf}
 use Rattle.page.specs.Page.{lineEnd}
@@ -14,7 +15,6 @@ use Rattle.report.specs.declared.Reader.{Reader}
 use Rattle.report.specs.Report.{linesOf, isEmpty, isBad}
 use Rattle.report.specs.Reading.{reading, lineAfter, withByte, marked, endOf}
 use Rattle.report.proofs.Value.{keptFrom, kept-snoc, kept}
-use Rattle.report.proofs.Reading.{both}
 
 -- bytes none of which ends a line
 pub data Open : List ℕ → Type 0 where

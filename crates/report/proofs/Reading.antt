@@ -10,6 +10,7 @@ use lib.Dec.{leb, eqb}
 use lib.ListN.{length, take, getD}
 use lib.Seq.{take-suc, length-take-le}
 use borrow.Author.Tests.{leb-true, eq-eqb}
+use Rattle.base.proofs.Tests.{both}
 use Rattle.base.specs.Limits.{maxEntry}
 use Rattle.decimal.specs.Text.{Put}
 use Rattle.decimal.proofs.Text.{put-length, put-start}
@@ -33,11 +34,6 @@ feed-more d part i h = rw (add-one i, take-suc part i 0 h) (sym (feed-cut d (tak
 
 pub feed-turn : (d : Reading) {mid next : Reading} (part : List ℕ) (i : ℕ) → i < length part → mid ≡ feedOf d (take i part) → next ≡ byteOf (getD part i 0) mid → next ≡ feedOf d (take (i + 1) part)
 feed-turn d part i h p q = q ∙ ap (byteOf (getD part i 0)) p ∙ sym (feed-more d part i h)
-
--- both sides of an `and` that is true
-pub both : (a b : Bool) → (a && b) ≡ true → (a ≡ true) × (b ≡ true)
-both true b e = (refl, e)
-both false b e = absurd (let z : _≡_ {A = ℕ} 0 1 = cc in omega arith)
 
 -- a book that stays sound whichever way a test goes
 either : (t : Bool) (a b : Reading) → (t ≡ true → Sound (a .book)) → (t ≡ false → Sound (b .book)) → Sound (cond t a b .book)

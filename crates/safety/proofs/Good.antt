@@ -6,6 +6,7 @@ use mathlib.Core.List.{List, [], _∷_, _++_}
 use lib.Dec.{eqb}
 use lib.ListN.{length}
 use borrow.Author.Tests.{eqb-true}
+use Rattle.base.proofs.Tests.{not-both}
 use Rattle.quorum.specs.Quorum.{readSize, writeSize}
 use Rattle.quorum.proofs.Laws.{Stands}
 use Rattle.outgoing.specs.Queue.{Msg}
@@ -16,7 +17,6 @@ use Rattle.agreement.specs.Core.{Sizes, Ghost}
 use Rattle.agreement.specs.Moves.{fresh}
 use Rattle.agreement.specs.All.{All, nil, cons}
 use Rattle.agreement.specs.Queue.{sel}
-use Rattle.agreement.proofs.Order.{both}
 use Rattle.agreement.proofs.Hold.{holds-fresh}
 use Rattle.travels.specs.Face.{Face}
 use Rattle.travels.specs.Inv.{forDepot, Total, putFace}
@@ -98,7 +98,7 @@ counted-put i w ws p q k = go (eqb k i)
 idle-fresh : (z : Sizes) (P : ℕ → Type 0) (b : ℕ) → Idle z P b (faceOf freshView)
 idle-fresh z P b =
     record {
-      node = record { own = record { holds = holds-fresh b; length = refl }; role = tt; cached = tt; buffered = nil; remembers = λ e. absurd (both e refl); meta = tt; row = refl };
+      node = record { own = record { holds = holds-fresh b; length = refl }; role = tt; cached = tt; buffered = nil; remembers = λ e. absurd (not-both e refl); meta = tt; row = refl };
       phase = refl;
       role = refl;
       log = refl;

@@ -8,6 +8,7 @@ use native.Mathlib.Omega.{arith}
 use lib.Dec.{eqb}
 use lib.ListN.{length}
 use borrow.Author.Tests.{eqb-true, eqb-false, eq-eqb}
+use Rattle.base.proofs.Tests.{not-both}
 use Rattle.base.specs.Limits.{maxDepots}
 use Rattle.ballot.specs.declared.Ballot.{Ballot}
 use Rattle.quorum.proofs.Laws.{Stands}
@@ -26,7 +27,6 @@ use Rattle.agreement.specs.Core.{Ghost}
 use Rattle.agreement.specs.All.{All, cons, Sub, leave}
 use Rattle.agreement.specs.Queue.{sel}
 use Rattle.agreement.proofs.Growth.{ext-refl}
-use Rattle.agreement.proofs.Order.{both}
 use Rattle.agreement.proofs.Report.{not-started}
 use Rattle.agreement.proofs.All.{sub-refl}
 use Rattle.travels.specs.Face.{Face, place, withLeader, takesIn, feedsIn}
@@ -62,8 +62,8 @@ face-mid event.Propose es y v q = refl
 face-mid (event.Leader n) es y v q = refl
 face-mid (event.Reconnect pid) es y v q = refl
 face-mid event.Resend es y v q = refl
-face-mid event.Drain es y v q = absurd (both q refl)
-face-mid event.Restart es y v q = absurd (both q refl)
+face-mid event.Drain es y v q = absurd (not-both q refl)
+face-mid event.Restart es y v q = absurd (not-both q refl)
 
 head-ok : {Q : Msg → Type 0} {m : Msg} {l : List Msg} → All Q (m ∷ l) → Q m
 head-ok (cons p ps) = p

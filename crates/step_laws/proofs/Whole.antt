@@ -7,6 +7,7 @@ use mathlib.Core.List.{List}
 use native.Mathlib.Omega.{arith}
 use lib.ListN.{length}
 use borrow.Author.Tests.{eq-eqb}
+use Rattle.base.proofs.Tests.{not-both}
 use Rattle.base.specs.Limits.{maxLog, maxStore, maxMessages}
 use Rattle.quorum.specs.declared.Configuration.{Configuration}
 use Rattle.quorum.proofs.Laws.{Stands, says-stands}
@@ -26,7 +27,7 @@ use Rattle.sight.proofs.Sums.{sum-part}
 use Rattle.broken.specs.Lent.{Lent}
 use Rattle.broken.specs.Broken.{recordBroken}
 use Rattle.refusals.specs.Refusals.{lengthsOff, wrongCall, callOff}
-use Rattle.refusals.proofs.Exactly.{clash, refused-1, refused-2}
+use Rattle.refusals.proofs.Exactly.{refused-1, refused-2}
 use Rattle.refusals.proofs.Taken.{Depot, LatestBelow, PromiseFit, MetaFit, Lengths, Whole, Taken}
 use Rattle.step.specs.Step.{World, Outcome, boxOf, queueOf, waiting, performOf, stepOf}
 use Rattle.step_laws.proofs.Plan.{none, first-place}
@@ -294,8 +295,8 @@ never-broken c e entries w v = by (ways c e entries w)
   where
     given : (n : ℕ) → (n ≡ 0 → ⊥) → Gives c e entries w n → (n ≡ 1 → ⊥) × (n ≡ 2 → ⊥)
     given n d (inl g) = (
-      (λ q. clash (refused-1 c (w .node) (w .row) (w .lists) e entries .0 (g ∙ q)) (v .call)),
-      (λ q. clash (refused-2 c (w .node) (w .row) (w .lists) e entries .0 (g ∙ q) .1) (v .record-stands)),
+      (λ q. not-both (refused-1 c (w .node) (w .row) (w .lists) e entries .0 (g ∙ q)) (v .call)),
+      (λ q. not-both (refused-2 c (w .node) (w .row) (w .lists) e entries .0 (g ∙ q) .1) (v .record-stands)),
     )
     given n d (inr g) = let l = outcome-later (outcomeOf c e entries w) .least (λ z. d (sym g ∙ z)) in ((λ q. omega arith), (λ q. omega arith))
 

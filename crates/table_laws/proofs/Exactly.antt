@@ -5,6 +5,7 @@ use mathlib.Core.Logic.{_↔_}
 use mathlib.Core.Bool.{true, false}
 use native.Mathlib.Omega.{arith}
 use lib.ListN.{length}
+use Rattle.base.proofs.Tests.{not-both, is-false}
 use Rattle.messages.specs.declared.Event.{Event}
 use Rattle.messages.specs.declared.Event.the-variants as event
 use Rattle.messages.specs.declared.PaxosMsg.{PaxosMsg}
@@ -19,7 +20,7 @@ use Rattle.decide_laws.proofs.Grown.{InPlace}
 use Rattle.decide_laws.proofs.Table.{Given, is-unfit, at-top, past-log, past-buffer, past-queue, all-fit, given-exactly}
 use Rattle.decide_laws.proofs.Steps.{Unbroken, FromDepot}
 use Rattle.table_laws.specs.Words.{UnfitMessage, TopMessage, Unfits, Tops}
-use Rattle.table_laws.proofs.Flagged.{opposite, is-false, Unflagged, Says, says-none}
+use Rattle.table_laws.proofs.Flagged.{Unflagged, Says, says-none}
 use Rattle.table_laws.proofs.Following.{clear-reconnected, says-prepare, says-acceptsync, says-acceptdecide, says-decide, clear-resend-follower}
 use Rattle.table_laws.proofs.Leading.{clear-leader, clear-prepare-req, clear-not-accepted, clear-resend-leader, says-proposal, says-accepted}
 use Rattle.table_laws.proofs.Promising.{says-promise}
@@ -98,7 +99,7 @@ module _ (e : Event) (count : ℕ) (s : SequencePaxos) (u : Unbroken s) (c : Unf
       there : decideOf e count s .no ≡ 7 → (Unfits e count s → ⊥) × Tops e count s
       there h =
           let w = top-if-seven 7 (taken e count s) refl (given-exactly e count s 7 .0 h) in
-          let none : Unfits e count s → ⊥ = λ x. opposite (taken e count s .plan .unfit) (says .unfit .1 x) (w .0) in
+          let none : Unfits e count s → ⊥ = λ x. not-both {b = taken e count s .plan .unfit} (says .unfit .1 x) (w .0) in
           (none, says .top none .0 (w .1))
 
       back : (Unfits e count s → ⊥) × Tops e count s → decideOf e count s .no ≡ 7

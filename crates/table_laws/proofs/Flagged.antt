@@ -9,6 +9,7 @@ use native.Mathlib.Numerals.{add-one}
 use lib.Dec.{ltb}
 use lib.ListN.{getD}
 use borrow.Author.Tests.{lt-ltb}
+use Rattle.base.proofs.Tests.{not-both, is-false}
 use Rattle.base.specs.Limits.{maxDepots}
 use Rattle.base.proofs.Lists.{getD-tabulate}
 use Rattle.base.proofs.Meet.{Shared}
@@ -29,13 +30,6 @@ use Rattle.table_laws.specs.Words.{SomeFollower}
 use Rattle.table_laws.proofs.Flags.{unfitTo, topTo, Raised, looped}
 
 -- Tests
-pub opposite : (b : Bool) → b ≡ true → b ≡ false → ⊥
-opposite b p q = true≢false (sym p ∙ q)
-
-pub is-false : (b : Bool) → (b ≡ true → ⊥) → b ≡ false
-is-false true h = absurd (h refl)
-is-false false h = refl
-
 pub both-true : (a b : Bool) → a ≡ true → b ≡ true → (a && b) ≡ true
 both-true a b p q = rw (p, q)
 
@@ -77,8 +71,8 @@ raised-not : (a a₁ : Bool) (f g : ℕ → Bool) (n : ℕ) → a ≡ false → 
 raised-not a a₁ f g n e q h = is-false a₁ (λ k. none (h .0 k))
   where
     none : (a ≡ true) ⊎ Shared f g n → ⊥
-    none (inl k) = opposite a k e
-    none (inr x) = opposite (g (x .place)) (x .second) (q (x .place))
+    none (inl k) = not-both {b = a} k e
+    none (inr x) = not-both {b = g (x .place)} (x .second) (q (x .place))
 
 clear-loop : (l : List Bool) (what : Each) (s : SequencePaxos) → Few what s → ((i : ℕ) → unfitTo what (suc i) s ≡ false) → ((i : ℕ) → topTo what (suc i) s ≡ false) → Unflagged s → Unflagged (forMarked l what (s .config .depots) s)
 clear-loop l what s f u t c =
@@ -109,8 +103,8 @@ Says U T r = Flagged (r .plan .unfit) (r .plan .top) U T
 pub says-none : (U T : Type 0) (r : SequencePaxos) → Unflagged r → (U → ⊥) → (T → ⊥) → Says U T r
 says-none U T r c f g =
     record {
-      unfit = ((λ e. absurd (opposite (r .plan .unfit) e (c .fit))), (λ x. absurd (f x)));
-      top = λ h. ((λ e. absurd (opposite (r .plan .top) e (c .below))), (λ x. absurd (g x)));
+      unfit = ((λ e. absurd (not-both {b = r .plan .unfit} e (c .fit))), (λ x. absurd (f x)));
+      top = λ h. ((λ e. absurd (not-both {b = r .plan .top} e (c .below))), (λ x. absurd (g x)));
     }
 
 -- unfit, and so it is said
@@ -119,7 +113,7 @@ says-unfit U T r e x = record { unfit = ((λ k. x), (λ k. e)); top = λ h. absu
 
 -- at the top, and so it is said
 pub says-top : (U T : Type 0) (r : SequencePaxos) → r .plan .unfit ≡ false → r .plan .top ≡ true → (U → ⊥) → T → Says U T r
-says-top U T r c e f x = record { unfit = ((λ k. absurd (opposite (r .plan .unfit) k c)), (λ k. absurd (f k))); top = λ h. ((λ k. x), (λ k. e)) }
+says-top U T r c e f x = record { unfit = ((λ k. absurd (not-both {b = r .plan .unfit} k c)), (λ k. absurd (f k))); top = λ h. ((λ k. x), (λ k. e)) }
 
 -- the same said in other words
 pub says-map : (U T X W : Type 0) (r : SequencePaxos) → X ↔ U → W ↔ T → Says X W r → Says U T r

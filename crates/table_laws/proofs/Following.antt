@@ -6,6 +6,7 @@ use mathlib.Core.Bool.{Bool, true, false, cond, _&&_}
 use native.Mathlib.Omega.{arith}
 use lib.Dec.{ltb, eqb}
 use borrow.Author.Tests.{ltb-true, ltb-false, lt-ltb, le-ltb, eqb-true, eqb-false, eq-eqb}
+use Rattle.base.proofs.Tests.{not-both}
 use Rattle.base.specs.Limits.{maxLog, largest}
 use Rattle.ballot.specs.Ballot.{compareOf, above, same}
 use Rattle.ballot.specs.declared.Ballot.{Ballot}
@@ -44,7 +45,7 @@ use Rattle.follower.specs.Follower.{logFrom, promisedSync, buildFits, cacheProm
 use Rattle.decide_laws.proofs.Grown.{either}
 use Rattle.decide_laws.proofs.Log.{put-fits}
 use Rattle.table_laws.specs.Words.{standing, decidedIndex, PrepareTaken, AcceptSyncTaken, AcceptDecideCompared, DecideCompared, OwnAtTop, AcceptDecideTaken, PutUnfit, ends-past, starts-past, changes-decided, ends-below-decided, ends-below-brought, PrepareUnfit, AcceptSyncUnfit, AcceptDecideUnfit}
-use Rattle.table_laws.proofs.Flagged.{apart, opposite, both-true, first-true, second-true, Unflagged, clear-push, clear-requests, Says, says-none, says-unfit, says-top, says-push}
+use Rattle.table_laws.proofs.Flagged.{apart, both-true, first-true, second-true, Unflagged, clear-push, clear-requests, Says, says-none, says-unfit, says-top, says-push}
 
 -- reconnected(pid)
 pub clear-reconnected : (pid : ℕ) (s : SequencePaxos) → Unflagged s → Unflagged (reconnectedOf pid s)
@@ -89,7 +90,7 @@ below-build Nothing s e = e
 
 tell-says : (U : Type 0) (from : ℕ) (x : HeldSync) (s : SequencePaxos) → Unflagged s → (startPast x (logLength s) ≡ true) ↔ U → Says U ⊥ (tellPromise from x s)
 unfolding tellPromise cachePromise
-tell-says U from x s c h = says-push U ⊥ _ (cachePromise x (buildFits x s)) (record { unfit = (λ e. h .0 (sym (raised-build x s (c .fit)) ∙ e), λ u. raised-build x s (c .fit) ∙ h .1 u); top = λ k. ((λ e. opposite (buildFits x s .plan .top) e (below-build x s (c .below))), λ b. absurd b) })
+tell-says U from x s c h = says-push U ⊥ _ (cachePromise x (buildFits x s)) (record { unfit = (λ e. h .0 (sym (raised-build x s (c .fit)) ∙ e), λ u. raised-build x s (c .fit) ∙ h .1 u); top = λ k. ((λ e. not-both {b = buildFits x s .plan .top} e (below-build x s (c .below))), λ b. absurd b) })
 
 module _ (m : Prepare) (from : ℕ) (s : SequencePaxos) (c : Unflagged s) where
   prepare-taken : PrepareTaken m s → Says (PrepareUnfit m s) ⊥ (prepareTaken m from s)
@@ -129,14 +130,14 @@ module _ (m : Prepare) (from : ℕ) (s : SequencePaxos) (c : Unflagged s) where
 
       in-recover : (q : Phase) → isRecover q ≡ true → q ≡ phase.Recover
       in-recover phase.Recover g = refl
-      in-recover phase.Prepare g = absurd (opposite false g refl)
-      in-recover phase.Accept g = absurd (opposite false g refl)
-      in-recover phase.None g = absurd (opposite false g refl)
+      in-recover phase.Prepare g = absurd (not-both {b = false} g refl)
+      in-recover phase.Accept g = absurd (not-both {b = false} g refl)
+      in-recover phase.None g = absurd (not-both {b = false} g refl)
 
       elsewhere : above (m .n) p ≡ false → (same (m .n) p ≡ false) ⊎ (isRecover (s .state .phase) ≡ false) → PrepareTaken m s → ⊥
-      elsewhere e f (inl t) = opposite (above (m .n) p) t e
-      elsewhere e (inl f) (inr t) = opposite (same (m .n) p) (rw (t .0) (same-refl p)) f
-      elsewhere e (inr f) (inr t) = opposite (isRecover (s .state .phase)) (ap isRecover (t .1)) f
+      elsewhere e f (inl t) = not-both {b = above (m .n) p} t e
+      elsewhere e (inl f) (inr t) = not-both {b = same (m .n) p} (rw (t .0) (same-refl p)) f
+      elsewhere e (inr f) (inr t) = not-both {b = isRecover (s .state .phase)} (ap isRecover (t .1)) f
 
 -- an unequal ballot gets NotAccepted or `reconnected`
 says-by-ballot : (U T : Type 0) (n : Ballot) (taken s : SequencePaxos) → Unflagged s → (U → n ≡ s .«internal_storage» .promise) → (T → n ≡ s .«internal_storage» .promise) → (n ≡ s .«internal_storage» .promise → Says U T taken) → Says U T (ifValidBallot n taken s)
@@ -147,7 +148,7 @@ says-by-ballot U T n taken s c f g h = by (compareOf (s .«internal_storage» .p
     p = s .«internal_storage» .promise
 
     unequal : n ≡ p → same p n ≡ false → ⊥
-    unequal e k = opposite (same p n) (rw e (same-refl p)) k
+    unequal e k = not-both {b = same p n} (rw e (same-refl p)) k
 
     by : (o : Order) → compareOf p n ≡ o → Says U T (byBallot o n taken s)
     by Equal e = h (sym (same-eq p n (rw e)))
@@ -221,7 +222,7 @@ module _ (m : AcceptSync) (count from : ℕ) (s : SequencePaxos) (c : Unflagged 
       let clear = clear-accepted (m .n) (syncEnd x) from (following (m .«seq_num») p) (clear-following (m .«seq_num») p (clear-put m count s c)) in
       either (Says (AcceptSyncUnfit m count s) ⊥) (syncUnfit x change (m .«decided_idx») s) (unfit s) r
       (λ e. says-unfit (AcceptSyncUnfit m count s) ⊥ (unfit s) refl (t, put-exactly x change (m .«decided_idx») s .0 e))
-      (λ e. says-none (AcceptSyncUnfit m count s) ⊥ r clear (λ u. opposite (syncUnfit x change (m .«decided_idx») s) (put-exactly x change (m .«decided_idx») s .1 (u .1)) e) (λ b. b))
+      (λ e. says-none (AcceptSyncUnfit m count s) ⊥ r clear (λ u. not-both {b = syncUnfit x change (m .«decided_idx») s} (put-exactly x change (m .«decided_idx») s .1 (u .1)) e) (λ b. b))
 
   pub says-acceptsync : Says (AcceptSyncUnfit m count s) ⊥ (handleAcceptsync m count from s)
   unfolding handleAcceptsync
@@ -247,7 +248,7 @@ own-top q s = (there (eqb (q .session) (s .«current_seq_num» .session)) refl, 
   where
     there : (b : Bool) → eqb (q .session) (s .«current_seq_num» .session) ≡ b → cond b (eqb (s .«current_seq_num» .counter) largest) false ≡ true → OwnAtTop q s
     there true p e = (eqb-true _ _ p, eqb-true _ _ e)
-    there false p e = absurd (opposite false e refl)
+    there false p e = absurd (not-both {b = false} e refl)
 
 -- with the own counter at the top no counter of 64 bits is one higher
 pub none-higher : (q : SequenceNumber) (s : SequencePaxos) → q .counter ≤ largest → OwnAtTop q s → statusOf (s .«current_seq_num») q ≡ Expected → ⊥
@@ -284,7 +285,7 @@ says-by-number : (U T : Type 0) (q : SequenceNumber) (pid : ℕ) (taken s : Sequ
 says-by-number U T q pid taken s c f g h =
     either (Says U T) (counterAtTop q s) (atTop s) (byStatus (statusOf (s .«current_seq_num») q) pid taken s)
     (λ e. let o = own-top q s .0 e in says-top U T (atTop s) (c .fit) refl (λ u. f u .0 o) (g .1 o))
-    (λ e. by (λ o. opposite (counterAtTop q s) (own-top q s .1 o) e) (statusOf (s .«current_seq_num») q) refl)
+    (λ e. by (λ o. not-both {b = counterAtTop q s} (own-top q s .1 o) e) (statusOf (s .«current_seq_num») q) refl)
   where
     by : (OwnAtTop q s → ⊥) → (t : MessageStatus) → statusOf (s .«current_seq_num») q ≡ t → Says U T (byStatus t pid taken s)
     by o Expected e = h o e
@@ -349,13 +350,13 @@ module _ (m : Decide) (s : SequencePaxos) (c : Unflagged s) where
       (λ b. absurd b)
       ((λ t. t .1), (λ o. ((n, in-accept (s .state .phase) e), o)))
       (λ o x. says-none ⊥ DecideTop (decideTaken (m .n) (m .«decided_idx») (setSeq (m .«seq_num») s)) (clear-decide (m .n) (m .«decided_idx») (setSeq (m .«seq_num») s) c) (λ b. b) (λ t. o (t .1))))
-      (λ e. says-none ⊥ DecideTop s c (λ b. b) (λ t. opposite (isAcceptPhase (s .state .phase)) (ap isAcceptPhase (t .0 .1)) e)))
+      (λ e. says-none ⊥ DecideTop s c (λ b. b) (λ t. not-both {b = isAcceptPhase (s .state .phase)} (ap isAcceptPhase (t .0 .1)) e)))
     where
       in-accept : (q : Phase) → isAcceptPhase q ≡ true → q ≡ phase.Accept
       in-accept phase.Accept g = refl
-      in-accept phase.Prepare g = absurd (opposite false g refl)
-      in-accept phase.Recover g = absurd (opposite false g refl)
-      in-accept phase.None g = absurd (opposite false g refl)
+      in-accept phase.Prepare g = absurd (not-both {b = false} g refl)
+      in-accept phase.Recover g = absurd (not-both {b = false} g refl)
+      in-accept phase.None g = absurd (not-both {b = false} g refl)
 
 -- a Follower's resend
 pub clear-resend-follower : (s : SequencePaxos) → Unflagged s → Unflagged (resendMessagesFollower s)

@@ -8,6 +8,7 @@ use native.Mathlib.Omega.{arith}
 use lib.Dec.{ltb, leb, eqb}
 use lib.ListN.{getD}
 use borrow.Author.Tests.{ltb-true, lt-ltb, leb-true, le-leb}
+use Rattle.base.proofs.Tests.{not-both}
 use Rattle.base.specs.Limits.{maxLog, maxDepots, largest}
 use Rattle.ballot.specs.Ballot.{above, same}
 use Rattle.ballot.specs.declared.Ballot.{Ballot}
@@ -36,7 +37,7 @@ use Rattle.leader.specs.Leader.{forFollowers, newLeader, ownPromise, becomeLead
 use Rattle.decide_laws.proofs.Grown.{either}
 use Rattle.table_laws.specs.Words.{standing, AtTop, SomeFollower, AcceptedTaken, AcceptedUnfit, CounterTop, ProposalTop, AcceptedTop}
 use Rattle.table_laws.proofs.Flags.{kept-in, isNothing}
-use Rattle.table_laws.proofs.Flagged.{apart, opposite, both-true, first-true, second-true, Unflagged, clear-push, clear-prepares, Says, says-none, says-unfit, says-map, follower-map, followed}
+use Rattle.table_laws.proofs.Flagged.{apart, both-true, first-true, second-true, Unflagged, clear-push, clear-prepares, Says, says-none, says-unfit, says-map, follower-map, followed}
 
 -- Handlers that raise no flag
 clear-become : (n : Ballot) (s : SequencePaxos) → Unflagged s → Unflagged (becomeLeader n s)
@@ -108,7 +109,7 @@ newTop d on = isNothing (stands on (d .latest)) && leb largest (d .«seq_num» .
 
 nothing-is : (x : Latest) → isNothing x ≡ true → x ≡ latest.Nothing
 nothing-is latest.Nothing e = refl
-nothing-is (latest.At at) e = absurd (opposite false e refl)
+nothing-is (latest.At at) e = absurd (not-both {b = false} e refl)
 
 new-top : (d : Depot) (on : Bool) → newTop d on ≡ true → NewTop d on
 unfolding newTop
@@ -148,15 +149,15 @@ only-top N W r a b p q x none y =
     }
   where
     never : (a ≡ true) ⊎ N → ⊥
-    never (inl e) = opposite a e p
+    never (inl e) = not-both {b = a} e p
     never (inr v) = none v
 
     some : (b ≡ true) ⊎ W → W
-    some (inl e) = absurd (opposite b e q)
+    some (inl e) = absurd (not-both {b = b} e q)
     some (inr w) = w
 
 never-so : (depots : ℕ) (l : LeaderState) → SomeFollower depots l (λ pid. false ≡ true) → ⊥
-never-so depots l x = opposite false (x .so) refl
+never-so depots l x = not-both {b = false} (x .so) refl
 
 -- A proposal
 module _ (count : ℕ) (s : SequencePaxos) (c : Unflagged s) (d : s .config .depots ≤ maxDepots) where
@@ -215,7 +216,7 @@ module _ (m : Accepted) (from : ℕ) (s : SequencePaxos) (c : Unflagged s) (d : 
       let now = newlyChosen (m .«accepted_idx») reported in
       either (Says ⊥ (AcceptedTop m from s)) now r reported
       (λ e. says-map ⊥ (AcceptedTop m from s) ⊥ (CounterTop s) r (λ b. b, λ b. b) (λ x. (t, e, x), λ x. x .2) says-told)
-      (λ e. says-none ⊥ (AcceptedTop m from s) reported c (λ b. b) (λ x. opposite now (x .1) e))
+      (λ e. says-none ⊥ (AcceptedTop m from s) reported c (λ b. b) (λ x. not-both {b = now} (x .1) e))
 
   says-accepted-taken : AcceptedTaken m s → Says (AcceptedUnfit m s) (AcceptedTop m from s) (acceptedTaken (m .«accepted_idx») from s)
   unfolding acceptedTaken
@@ -225,7 +226,7 @@ module _ (m : Accepted) (from : ℕ) (s : SequencePaxos) (c : Unflagged s) (d : 
       let past = ltb (logLength s) (m .«accepted_idx») in
       either (Says U T) past (unfit s) (decideIfChosen (m .«accepted_idx») reported)
       (λ e. says-unfit U T (unfit s) refl (t, ltb-true (logLength s) (m .«accepted_idx») e))
-      (λ e. says-map U T ⊥ T (decideIfChosen (m .«accepted_idx») reported) ((λ b. absurd b), (λ u. opposite past (lt-ltb (logLength s) (m .«accepted_idx») (u .1)) e)) (λ x. x, λ x. x) (says-chosen t))
+      (λ e. says-map U T ⊥ T (decideIfChosen (m .«accepted_idx») reported) ((λ b. absurd b), (λ u. not-both {b = past} (lt-ltb (logLength s) (m .«accepted_idx») (u .1)) e)) (λ x. x, λ x. x) (says-chosen t))
 
   pub says-accepted : Says (AcceptedUnfit m s) (AcceptedTop m from s) (handleAccepted (m .n) (m .«accepted_idx») from s)
   unfolding handleAccepted
@@ -241,7 +242,7 @@ module _ (m : Accepted) (from : ℕ) (s : SequencePaxos) (c : Unflagged s) (d : 
       T = AcceptedTop m from s
 
       unequal : m .n ≡ s .«leader_state» .«n_leader» → same (m .n) (s .«leader_state» .«n_leader») ≡ false → ⊥
-      unequal e k = opposite (same (m .n) (s .«leader_state» .«n_leader»)) (rw e (same-refl (s .«leader_state» .«n_leader»))) k
+      unequal e k = not-both {b = same (m .n) (s .«leader_state» .«n_leader»)} (rw e (same-refl (s .«leader_state» .«n_leader»))) k
 
       other : (t : Standing) → standing s ≡ t → (t ≡ LeaderAccept → ⊥) → Says U T s
       other t e h = says-none U T s c (λ u. h (sym e ∙ u .0 .1)) (λ x. h (sym e ∙ x .0 .1))

@@ -8,6 +8,7 @@ use lib.Dec.{ltb, leb, eqb}
 use lib.ListN.{length}
 use lib.Seq.{getD-set-same}
 use borrow.Author.Tests.{ltb-true, lt-ltb, leb-true, le-leb}
+use Rattle.base.proofs.Tests.{not-both}
 use Rattle.base.specs.Limits.{maxLog, maxDepots, largest}
 use Rattle.ballot.specs.Ballot.{same}
 use Rattle.ballot.proofs.Laws.{same-eq, same-refl}
@@ -42,22 +43,22 @@ use Rattle.decide_laws.proofs.Log.{kept-within}
 use Rattle.decide_laws.proofs.Leader.{synced-best}
 use Rattle.table_laws.specs.Words.{standing, decidedIndex, AtTop, SomeFollower, PromiseIn, keptBy, isBest, Completes, leftBy, withBuffered, EndsPast, BestUnfit, BuiltPast, QuorumUnfit, best-sync, highest-decided, sync-built, PromiseUnfit, brings-past, built-past, at-quorum, PromiseTop, sender-top, follower-top}
 use Rattle.table_laws.proofs.Flags.{kept-in, startsPast, unfitTo, topTo, turn-one}
-use Rattle.table_laws.proofs.Flagged.{apart, opposite, both-true, second-true, Unflagged, Says, says-none, says-unfit, says-map, follower-map, followed}
+use Rattle.table_laws.proofs.Flagged.{apart, both-true, second-true, Unflagged, Says, says-none, says-unfit, says-map, follower-map, followed}
 use Rattle.table_laws.proofs.Following.{put-exactly}
 use Rattle.table_laws.proofs.Leading.{follower-kept}
 
 -- Each promised follower is synced
 built-exactly : (p : PromiseState) (l : LeaderState) (len : ℕ) → (startsPast p (l .«n_leader») (l .«max_promise» .meta) len ≡ true) ↔ BuiltPast p l len
 built-exactly (Promised m) l len = (ltb-true len _, lt-ltb len _)
-built-exactly NotPromised l len = ((λ e. opposite false e refl), (λ b. absurd b))
-built-exactly PromisedHigher l len = ((λ e. opposite false e refl), (λ b. absurd b))
+built-exactly NotPromised l len = ((λ e. not-both {b = false} e refl), (λ b. absurd b))
+built-exactly PromisedHigher l len = ((λ e. not-both {b = false} e refl), (λ b. absurd b))
 
 follower-promised : (pid : ℕ) (l : LeaderState) → isFollower pid l ≡ true → isPromised (depotOf pid l .promise) ≡ true
 unfolding isFollower
 follower-promised pid l = go (eqb pid (l .«n_leader» .pid))
   where
     go : (b : Bool) → cond b false (isPromised (depotOf pid l .promise)) ≡ true → isPromised (depotOf pid l .promise) ≡ true
-    go true e = absurd (opposite false e refl)
+    go true e = absurd (not-both {b = false} e refl)
     go false e = e
 
 -- the leader's record as the loop finds it: the best's sync is taken, and the own accepted index is set
@@ -155,7 +156,7 @@ put-leader sync change brings highest op s h =
   where
     none : ltb (leftBy sync (logLength s)) highest ≡ false → Bad sync change brings (logLength s) (decidedIndex s) highest → ⊥
     none e (inl x) = h x
-    none e (inr k) = opposite (ltb (leftBy sync (logLength s)) highest) (lt-ltb (leftBy sync (logLength s)) highest k) e
+    none e (inr k) = not-both {b = ltb (leftBy sync (logLength s)) highest} (lt-ltb (leftBy sync (logLength s)) highest k) e
 
 put-held : (x : LogSync) (brought : Bool) (highest : ℕ) (s : SequencePaxos) → PutOn (Held x) (changeOf brought s) (s .«leader_state» .«max_promise» .meta .«decided_idx») highest s (syncHeld x brought highest s)
 unfolding syncHeld
@@ -166,7 +167,7 @@ put-held x brought highest s =
     let exactly = put-exactly x change brings s in
     either (PutOn (Held x) change brings highest s) test (unfit s) (leaderSyncs highest (syncEnd x) (putOp brought x) s)
     (λ e. bad (inl (exactly .0 e)) refl refl)
-    (λ e. put-leader (Held x) change brings highest (putOp brought x) s (λ u. opposite test (exactly .1 u) e))
+    (λ e. put-leader (Held x) change brings highest (putOp brought x) s (λ u. not-both {b = test} (exactly .1 u) e))
 
 put-best : (brought : Bool) (s : SequencePaxos) → PutOn (s .«leader_state» .«max_promise» .sync) (changeOf brought s) (s .«leader_state» .«max_promise» .meta .«decided_idx») (maxDecided (s .config .depots) (s .«leader_state»)) s (syncWithBest brought s)
 unfolding syncWithBest
@@ -188,7 +189,7 @@ module _ (sync : HeldSync) (change brings len decided highest : ℕ) (a b a₁ b
   quorum-unfit (good none e f l) h = ((λ k. there (h .0 k)), back)
     where
       there : (a₁ ≡ true) ⊎ B len₁ → Bad sync change brings len decided highest ⊎ B (leftBy sync len)
-      there (inl k) = absurd (opposite a₁ k (e ∙ ca))
+      there (inl k) = absurd (not-both {b = a₁} k (e ∙ ca))
       there (inr x) = inr (subst B l x)
 
       back : Bad sync change brings len decided highest ⊎ B (leftBy sync len) → a₂ ≡ true
@@ -236,14 +237,14 @@ module _ (brought : Bool) (s : SequencePaxos) (c : Unflagged s) (d : s .config .
       }
     where
       some : syncWithBest brought s .plan .top ≡ false → (syncWithBest brought s .plan .top ≡ true) ⊎ sessions → sessions
-      some e (inl k) = absurd (opposite (syncWithBest brought s .plan .top) k e)
+      some e (inl k) = absurd (not-both {b = syncWithBest brought s .plan .top} k e)
       some e (inr x) = x
 
 -- A Promise: a sync brought that ends past 512
 brings-exactly : (x : HeldSync) → (bringsPast x ≡ true) ↔ EndsPast x
 unfolding endsPast
 brings-exactly (Held x) = (ltb-true maxLog (syncEnd x), lt-ltb maxLog (syncEnd x))
-brings-exactly Nothing = ((λ e. opposite false e refl), (λ b. absurd b))
+brings-exactly Nothing = ((λ e. not-both {b = false} e refl), (λ b. absurd b))
 
 -- a promise kept changes no depot's session
 session-kept : (m : PromiseMetaData) (l : LeaderState) (pid : ℕ) → depotOf pid (withDepot (m .pid) (setPromiseState (Promised m)) l) .«seq_num» .session ≡ depotOf pid l .«seq_num» .session
@@ -343,7 +344,7 @@ module _ (m : Promise) (count from : ℕ) (s : SequencePaxos) (c : Unflagged s) 
     not-accept k = apart (sym (i .1) ∙ k .1) (omega arith)
 
     unfit-prepare : IsUnfit → Completes m count from s × QuorumUnfit (keptBy m count from s) (isBest m from s) s
-    unfit-prepare (brings-past t e) = absurd (opposite (bringsPast sync) (brings-exactly sync .1 e) short)
+    unfit-prepare (brings-past t e) = absurd (not-both {b = bringsPast sync} (brings-exactly sync .1 e) short)
     unfit-prepare (built-past k e) = absurd (not-accept k)
     unfit-prepare (at-quorum k q) = (k, q)
 
@@ -360,7 +361,7 @@ module _ (m : Promise) (count from : ℕ) (s : SequencePaxos) (c : Unflagged s) 
         let q = keepSync (isBest m from s) sync k in
         either (Says IsUnfit IsTop) test r q
         (λ e. says-map IsUnfit IsTop (QuorumUnfit (keptBy m count from s) (isBest m from s) s) (SomeFollower (s .config .depots) (keptBy m count from s) (λ pid. AtTop (theDepot pid s .«seq_num» .session))) r ((λ x. at-quorum (i, e) x), (λ x. unfit-prepare x .1)) ((λ x. follower-top (i, e) x), (λ x. top-prepare x .1)) says-quorum)
-        (λ e. says-none IsUnfit IsTop q (clear-kept (isBest m from s) sync k c) (λ x. opposite test (unfit-prepare x .0 .1) e) (λ x. opposite test (top-prepare x .0 .1) e))
+        (λ e. says-none IsUnfit IsTop q (clear-kept (isBest m from s) sync k c) (λ x. not-both {b = test} (unfit-prepare x .0 .1) e) (λ x. not-both {b = test} (top-prepare x .0 .1) e))
 
   -- in (Leader, Accept)
   module _ (i : PromiseIn LeaderAccept m s) (short : bringsPast sync ≡ false) where
@@ -368,7 +369,7 @@ module _ (m : Promise) (count from : ℕ) (s : SequencePaxos) (c : Unflagged s) 
     not-prepare k = apart (sym (i .1) ∙ k .1) (omega arith)
 
     unfit-accept : IsUnfit → logLength s < syncStartOf report s
-    unfit-accept (brings-past t e) = absurd (opposite (bringsPast sync) (brings-exactly sync .1 e) short)
+    unfit-accept (brings-past t e) = absurd (not-both {b = bringsPast sync} (brings-exactly sync .1 e) short)
     unfit-accept (built-past k e) = e
     unfit-accept (at-quorum k q) = absurd (not-prepare (k .0))
 
@@ -400,8 +401,8 @@ module _ (m : Promise) (count from : ℕ) (s : SequencePaxos) (c : Unflagged s) 
       (λ e. says-ignored (λ t. unequal e t))
     where
       unequal : same (m .n) (s .«leader_state» .«n_leader») ≡ false → PromiseIn LeaderPrepare m s ⊎ PromiseIn LeaderAccept m s → ⊥
-      unequal e (inl t) = opposite (same (m .n) (s .«leader_state» .«n_leader»)) (rw (t .0) (same-refl (s .«leader_state» .«n_leader»))) e
-      unequal e (inr t) = opposite (same (m .n) (s .«leader_state» .«n_leader»)) (rw (t .0) (same-refl (s .«leader_state» .«n_leader»))) e
+      unequal e (inl t) = not-both {b = same (m .n) (s .«leader_state» .«n_leader»)} (rw (t .0) (same-refl (s .«leader_state» .«n_leader»))) e
+      unequal e (inr t) = not-both {b = same (m .n) (s .«leader_state» .«n_leader»)} (rw (t .0) (same-refl (s .«leader_state» .«n_leader»))) e
 
       past : PromiseIn LeaderPrepare m s ⊎ PromiseIn LeaderAccept m s → bringsPast sync ≡ true → Says IsUnfit IsTop (unfit s)
       past t e = says-unfit IsUnfit IsTop (unfit s) refl (brings-past t (brings-exactly sync .0 e))

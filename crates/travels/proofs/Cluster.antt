@@ -9,6 +9,7 @@ use lib.Dec.{eqb}
 use lib.ListN.{length, take, getD}
 use lib.Seq.{getD-take, length-take-le, take-all}
 use borrow.Author.Tests.{eq-eqb, ne-eqb}
+use Rattle.base.proofs.Tests.{not-both, is-false}
 use Rattle.ballot.specs.Ballot.{same}
 use Rattle.ballot.specs.declared.Ballot.{Ballot}
 use Rattle.ballot.proofs.Laws.{same-eq, default-lowest}
@@ -29,7 +30,6 @@ use Rattle.agreement.specs.Moves.{fresh}
 use Rattle.agreement.specs.All.{All, nil, cons, Sub}
 use Rattle.agreement.specs.Queue.{sel}
 use Rattle.agreement.specs.Stream.{none}
-use Rattle.agreement.proofs.Order.{both, is-false}
 use Rattle.agreement.proofs.Update.{depot-eq}
 use Rattle.agreement.proofs.Moves.{begin}
 use Rattle.agreement.proofs.Decided.{settled-agree}
@@ -131,7 +131,7 @@ none-takes {z} {P} {g} {xs} {m = m} v n s l t u = is-false (takesIn n (xs t)) no
 
     of : {k : ℕ} → Mark g n k → ⊥
     of (nothing e _) = default-lowest m (subst (Below m) e l .is)
-    of (begun q _ _) = both q s
+    of (begun q _ _) = not-both q s
 
     no-way : takesIn n (xs t) ≡ true → ⊥
     no-way e =
@@ -145,7 +145,7 @@ pub t-forgets : {z : Sizes} {P : ℕ → Type 0} {b : ℕ} {c : Scene} {g : Ghos
 t-forgets {z} {P} {b} {c} {g} {x} l o ep ea v = go (isLeader (x .state .role)) refl
   where
     role : (r : Role) (p : Phase) → isLeader r ≡ false → InRole z g b (x .storage) (x .log) (x .leader) (x .best) r p → InRole z g b (x .storage) (x .log) l (x .best) r p
-    role Leader p e w = absurd (both refl e)
+    role Leader p e w = absurd (not-both refl e)
     role Follower phase.Prepare e w = w
     role Follower phase.Accept e w = w
     role Follower phase.Recover e w = w
@@ -154,8 +154,8 @@ t-forgets {z} {P} {b} {c} {g} {x} l o ep ea v = go (isLeader (x .state .role)) r
     go : (t : Bool) → isLeader (x .state .role) ≡ t → Well z P b c g (withLeader l x)
     go true e = t-less v l e o (λ t u. inl (ea t u))
     go false e =
-        booked v l (x .best) (λ n t. feedsIn n t (withLeader l x)) (o .ballot) (o .number) (λ n t _ u _ k. absurd (both k (feeds-none n t (x .state) l e)))
-        (record { own = v .node .own; role = role (x .state .role) (x .state .phase) e (v .node .role); cached = v .node .cached; buffered = v .node .buffered; remembers = λ k. absurd (both k e); meta = v .node .meta; row = o .row })
+        booked v l (x .best) (λ n t. feedsIn n t (withLeader l x)) (o .ballot) (o .number) (λ n t _ u _ k. absurd (not-both k (feeds-none n t (x .state) l e)))
+        (record { own = v .node .own; role = role (x .state .role) (x .state .phase) e (v .node .role); cached = v .node .cached; buffered = v .node .buffered; remembers = λ k. absurd (not-both k e); meta = v .node .meta; row = o .row })
 
 -- the links with b's queue handed to them
 abbrev pub handedTo : ℕ → List Msg → Links → Links

@@ -6,6 +6,7 @@ use mathlib.Core.Bool.{Bool, true, false, cond}
 use mathlib.Core.List.{List, _++_, map}
 use native.Mathlib.Omega.{arith}
 use lib.ListN.{length}
+use Rattle.base.proofs.Tests.{not-both}
 use Rattle.base.specs.Limits.{maxDepots}
 use Rattle.ballot.specs.Ballot.{same}
 use Rattle.ballot.specs.declared.Ballot.{Ballot}
@@ -33,7 +34,7 @@ use Rattle.agreement.specs.Moves.{raise}
 use Rattle.agreement.specs.Report.{Asks, Told, Elected}
 use Rattle.agreement.specs.All.{All, nil, cons}
 use Rattle.agreement.specs.Stream.{Item, plain, Plain, none, more}
-use Rattle.agreement.proofs.Order.{both, within-refl, upto-refl}
+use Rattle.agreement.proofs.Order.{within-refl, upto-refl}
 use Rattle.agreement.proofs.Update.{ballot-eq}
 use Rattle.agreement.proofs.Hold.{holds-low}
 use Rattle.agreement.proofs.Report.{not-started, report-of}
@@ -60,7 +61,7 @@ not-of {m} {n} i ne = go (same m n) refl
 
 module _ (z : Sizes) (P : ℕ → Type 0) (g : Ghost ℕ) (n : Ballot) (s : g .started n ≡ false) where
   apart : (m : Ballot) → g .started m ≡ true → m ≢ n
-  apart m t e = both (subst (λ k. g .started k ≡ true) e t) s
+  apart m t e = not-both (subst (λ k. g .started k ≡ true) e t) s
 
   early-item : (i j : ℕ) (m : Msg) → Ok z P g i j m → item n m ≡ plain
   early-item i j m o = go (m .msg) o
@@ -191,11 +192,11 @@ asks-now {z} {P} {b} {c} {g} {x = x} v r = go (x .state .role) (x .state .phase)
   where
     go : (rl : Role) (ph : Phase) → isLeader rl ≡ true → InRole z g b (x .storage) (x .log) (x .leader) (x .best) rl ph
         → Asks z g (x .leader .«n_leader») (x .storage .«accepted_round») (x .storage .«accepted_idx») (x .storage .«decided_idx»)
-    go Follower ph e o = absurd (both e refl)
+    go Follower ph e o = absurd (not-both e refl)
     go Leader phase.Prepare e o =
         record {
           early = λ s. rw (o .now, v .node .own .length, o .prepares .own) (report-of (v .core) (v .node .own .holds) (holds-low (v .core) (v .node .own .holds)) upto-refl);
         }
-    go Leader phase.Accept e o = record { early = λ s. absurd (both (o .leads .started) (subst (λ k. g .started k ≡ false) (o .now) s)) }
+    go Leader phase.Accept e o = record { early = λ s. absurd (not-both (o .leads .started) (subst (λ k. g .started k ≡ false) (o .now) s)) }
     go Leader phase.Recover e o = absurd o
     go Leader phase.None e o = absurd o

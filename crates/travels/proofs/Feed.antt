@@ -8,6 +8,7 @@ use native.Mathlib.Omega.{arith}
 use lib.Dec.{leb}
 use lib.ListN.{length, take, drop, set, getD, length-set, length-append}
 use lib.Seq.{getD-set-other}
+use Rattle.base.proofs.Tests.{not-both}
 use Rattle.base.specs.Count.{countBelow}
 use Rattle.ballot.specs.declared.Ballot.{Ballot}
 use Rattle.ballot.proofs.Laws.{same-refl as same-self}
@@ -36,7 +37,6 @@ use Rattle.agreement.specs.Report.{Led}
 use Rattle.agreement.specs.All.{All}
 use Rattle.agreement.specs.Queue.{There}
 use Rattle.agreement.specs.Stream.{plain, adds}
-use Rattle.agreement.proofs.Order.{both}
 use Rattle.agreement.proofs.Update.{ballot-eq, depot-eq, ballot-other}
 use Rattle.agreement.proofs.Hold.{decides}
 use Rattle.agreement.proofs.All.{all-append}
@@ -184,7 +184,7 @@ meta-edit (meta.At k) {u} {at} {a} {es} {q} w x o = record { index = o .index; t
     clash : k .at ≡ at → ⊥
     clash e =
         let i : getD q at noMsg ≡ record { to = k .n .pid; msg = msg.Accepted (record { n = k .n; «accepted_idx» = o .index }); entries = [] } = subst (λ j. getD q j noMsg ≡ record { to = k .n .pid; msg = msg.Accepted (record { n = k .n; «accepted_idx» = o .index }); entries = [] }) e (o .there .is) in
-        both {t = false} (ap (λ (m : Msg). isAcceptDecide (m .msg)) (sym i ∙ w .is)) refl
+        not-both {b = false} (ap (λ (m : Msg). isAcceptDecide (m .msg)) (sym i ∙ w .is)) refl
 
 -- the remembered message with another decided index, and entries that join it
 abbrev pub joining : ℕ → ℕ → List ℕ → AcceptDecide → List ℕ → Msg
@@ -253,7 +253,7 @@ module _ {z : Sizes} {P : ℕ → Type 0} {b : ℕ} {c : Scene} {g : Ghost ℕ} 
           (λ r. r) (v .up k u q lu ne))
       up k u q lu ne (inl e) (inr d) =
           rw (else k u (inl d))
-          (flow-push k u (c .out u) (x .queue) m (ik k d) (flow-less _ (λ r. absurd (both r (leads-other k (x .state) l (o .ballot ∙ p .now) d))) (λ r. r) (v .up k u q lu ne)))
+          (flow-push k u (c .out u) (x .queue) m (ik k d) (flow-less _ (λ r. absurd (not-both r (leads-other k (x .state) l (o .ballot ∙ p .now) d))) (λ r. r) (v .up k u q lu ne)))
       up k u q lu ne (inl e) (inl d) =
           subst (λ j. (j ≢ b) → FlowOf g (whole′ k j) (fed k j) k j (c .out j ++ forDepot j (x .queue ++ (m ∷ []))) (c .others j) y) (sym e)
           (subst (λ r. leaderOf r ≡ b → (t ≢ b) → FlowOf g (whole′ r t) (fed r t) r t (c .out t ++ forDepot t (x .queue ++ (m ∷ []))) (c .others t) y) (sym d) (λ q′ ne′. mine ne′ q′) q) ne
@@ -346,4 +346,4 @@ rewhole {z} {P} {b} {c} {g} {whole} {fed} {x} whole′ e v =
     up : (n : Ballot) (t : ℕ) → (whole′ n t ≡ whole n t) ⊎ ((fed n t ≡ false) × Same (length (whole n t)) (whole n t) (whole′ n t))
         → FlowOf g (whole n t) (fed n t) n t (c .out t ++ forDepot t (x .queue)) (c .others t) x → FlowOf g (whole′ n t) (fed n t) n t (c .out t ++ forDepot t (x .queue)) (c .others t) x
     up n t (inl q) f = rw q f
-    up n t (inr q) f = flow-grown f _ (q .1) (record { number = f .feeds .number; whole = λ r. absurd (both r (q .0)) })
+    up n t (inr q) f = flow-grown f _ (q .1) (record { number = f .feeds .number; whole = λ r. absurd (not-both r (q .0)) })

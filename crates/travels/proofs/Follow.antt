@@ -6,6 +6,7 @@ use mathlib.Core.Bool.{Bool, true, false, _&&_}
 use mathlib.Core.List.{List, [], _∷_, _++_, map}
 use native.Mathlib.Omega.{arith}
 use lib.ListN.{length, take, drop, length-append, length-take}
+use Rattle.base.proofs.Tests.{not-both}
 use Rattle.ballot.specs.Ballot.{same}
 use Rattle.ballot.specs.declared.Ballot.{Ballot}
 use Rattle.ballot.proofs.Laws.{same-eq, same-refl as same-self}
@@ -28,7 +29,6 @@ use Rattle.agreement.specs.Moves.{raise, accept}
 use Rattle.agreement.specs.Facts.{Comm, Holds, Brought, Taken}
 use Rattle.agreement.specs.Report.{from, Asks, Promises, Syncs}
 use Rattle.agreement.specs.Stream.{opens, adds, Flow}
-use Rattle.agreement.proofs.Order.{both}
 use Rattle.agreement.proofs.Update.{ballot-eq}
 use Rattle.agreement.proofs.Decided.{decided-up, comm-down, comm-max}
 use Rattle.agreement.proofs.Hold.{taken, valid-here, synced, more}
@@ -63,7 +63,7 @@ promisedTo n sync es x =
     }
 
 not-leader : {A : Type 0} → false ≡ true → A
-not-leader e = absurd (both e refl)
+not-leader e = absurd (not-both e refl)
 
 module _ {z : Sizes} {P : ℕ → Type 0} {b : ℕ} {c : Scene} {g : Ghost ℕ} {x : Face} (v : Well z P b c g x) where
   holds : Holds z g b (x .storage .promise) (x .storage .«accepted_round») (x .log) (x .storage .«decided_idx»)
@@ -103,14 +103,14 @@ takes-other n m x p ne = go (same (x .storage .promise) m) refl (isAcceptPhase (
 -- in phase Accept the log is of the promise's ballot
 pub round-of : (z : Sizes) (g : Ghost ℕ) (b : ℕ) (st : InternalStorage) (log : List ℕ) (l : LeaderState) (best : List ℕ) (r : Role) (p : Phase) → InRole z g b st log l best r p → isAcceptPhase p ≡ true
     → st .«accepted_round» ≡ st .promise
-round-of z g b st log l best Leader phase.Prepare o e = absurd (both e refl)
+round-of z g b st log l best Leader phase.Prepare o e = absurd (not-both e refl)
 round-of z g b st log l best Leader phase.Accept o e = o .round
 round-of z g b st log l best Leader phase.Recover o e = absurd o
 round-of z g b st log l best Leader phase.None o e = absurd o
-round-of z g b st log l best Follower phase.Prepare o e = absurd (both e refl)
+round-of z g b st log l best Follower phase.Prepare o e = absurd (not-both e refl)
 round-of z g b st log l best Follower phase.Accept o e = o
-round-of z g b st log l best Follower phase.Recover o e = absurd (both e refl)
-round-of z g b st log l best Follower phase.None o e = absurd (both e refl)
+round-of z g b st log l best Follower phase.Recover o e = absurd (not-both e refl)
+round-of z g b st log l best Follower phase.None o e = absurd (not-both e refl)
 
 -- the face of a depot that has accepted a log
 abbrev pub tookTo : Ballot → ℕ → List ℕ → ℕ → State → SequenceNumber → CachedMessage → List ℕ → Face → Face
@@ -144,7 +144,7 @@ module _ {z : Sizes} {P : ℕ → Type 0} {b : ℕ} {c : Scene} {g : Ghost ℕ} 
         role = role (s .role) (s .phase) es′ ea;
         cached = cached-up z (t .moved .ext) b m es co;
         buffered = v .node .buffered;
-        remembers = λ e. absurd (both e es′);
+        remembers = λ e. absurd (not-both e es′);
         meta = v .node .meta;
         row = v .node .row;
       })
@@ -157,11 +157,11 @@ module _ {z : Sizes} {P : ℕ → Type 0} {b : ℕ} {c : Scene} {g : Ghost ℕ} 
       t = taken (v .core) (v .node .own .holds .promise ∙ p) (w .fit)
 
       role : (rl : Role) (ph : Phase) → isLeader rl ≡ false → isAcceptPhase ph ≡ true → InRole z (accept b n (length log) g) b (y .storage) log (x .leader) (x .best) rl ph
-      role Leader ph e f = absurd (both refl e)
+      role Leader ph e f = absurd (not-both refl e)
       role Follower phase.Accept e f = er ∙ sym p
-      role Follower phase.Prepare e f = absurd (both f refl)
-      role Follower phase.Recover e f = absurd (both f refl)
-      role Follower phase.None e f = absurd (both f refl)
+      role Follower phase.Prepare e f = absurd (not-both f refl)
+      role Follower phase.Recover e f = absurd (not-both f refl)
+      role Follower phase.None e f = absurd (not-both f refl)
 
       down : (k : Ballot) → leaderOf k < z .depots → leaderOf k ≢ b → (k ≡ n) ⊎ (k ≢ n)
           → FlowOf (accept b n (length log) g) (g .G k) (feedsIn k b (c .others (leaderOf k))) k b (c .inn (leaderOf k)) y (c .others (leaderOf k))

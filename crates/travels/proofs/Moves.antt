@@ -5,6 +5,7 @@ use mathlib.Core.Logic.{_≢_}
 use mathlib.Core.Bool.{false}
 use mathlib.Core.List.{List, _++_}
 use lib.ListN.{length}
+use Rattle.base.proofs.Tests.{not-both}
 use Rattle.ballot.specs.declared.Ballot.{Ballot}
 use Rattle.leader_state.specs.declared.LeaderState.{LeaderState}
 use Rattle.paxos_box.specs.declared.State.{State}
@@ -14,7 +15,6 @@ use Rattle.agreement.specs.Core.{Sizes, Ghost, Same}
 use Rattle.agreement.specs.Growth.{Moved}
 use Rattle.agreement.specs.Proposed.{Only}
 use Rattle.agreement.specs.Stream.{Item, Taker, Feeder, Flow}
-use Rattle.agreement.proofs.Order.{both}
 use Rattle.agreement.proofs.Growth.{ext-refl}
 use Rattle.agreement.proofs.Flow.{flow-idle, flow-grown}
 use Rattle.travels.specs.Face.{Face, takesIn, leadsBy, feedsBy, feedsIn}
@@ -39,7 +39,7 @@ feeds-none n t s l e = rw e
 
 -- its flows ask nothing of it
 pub flow-left : {log log′ : List ℕ} {k : ℕ} {l : List (Item ℕ)} {x : Taker} {y : Feeder} (y′ : Feeder) → y′ .leads ≡ false → y′ .feeds ≡ false → Same (length log) log log′ → Flow log k l x y → Flow log′ k l x y′
-flow-left y′ p q s f = flow-grown f y′ s (record { number = λ t. absurd (both t p); whole = λ t. absurd (both t q) })
+flow-left y′ p q s f = flow-grown f y′ s (record { number = λ t. absurd (not-both t p); whole = λ t. absurd (not-both t q) })
 
 module _ {z : Sizes} {P : ℕ → Type 0} {b : ℕ} {c : Scene} {g h : Ghost ℕ} {x : Face} (v : Well z P b c g x) (m : Moved z b g h) where
   -- the flows of a depot that leads no more

@@ -7,6 +7,7 @@ use mathlib.Core.List.{List}
 use native.Mathlib.Omega.{arith}
 use lib.Dec.{eqb}
 use lib.ListN.{length}
+use Rattle.base.proofs.Tests.{not-both}
 use Rattle.base.specs.Limits.{maxDepots}
 use Rattle.ballot.specs.declared.Ballot.{Ballot}
 use Rattle.leader_state.specs.declared.Depot.{Depot}
@@ -28,7 +29,7 @@ use Rattle.outgoing.specs.Queue.{Msg}
 use Rattle.agreement.specs.Order.{Within, Beats}
 use Rattle.agreement.specs.Core.{Sizes, Ghost}
 use Rattle.agreement.specs.Report.{Sync, Answer, Report, Told, Prepares}
-use Rattle.agreement.proofs.Order.{both, within-refl, beats-within}
+use Rattle.agreement.proofs.Order.{within-refl, beats-within}
 use Rattle.agreement.proofs.Update.{depot-eq}
 use Rattle.agreement.proofs.Report.{told-less}
 use Rattle.agreement.proofs.Lead.{prepares-better}
@@ -50,7 +51,7 @@ pub record Less (z : Sizes) (l l′ : LeaderState) : Type 0 where
   pub latest : (t : ℕ) → t < z .depots → (place t l′ .latest ≡ place t l .latest) ⊎ (place t l′ .latest ≡ latest.Nothing)
 
 pub no-promise : {A : Type 0} {p : PromiseState} {m : PromiseMetaData} → isPromised p ≡ false → p ≡ Promised m → A
-no-promise {p = p} e q = absurd (both (ap isPromised q) e)
+no-promise {p = p} e q = absurd (not-both (ap isPromised q) e)
 
 -- a promise of the one record is one of the other
 less-promise : {p p′ : PromiseState} {m : PromiseMetaData} → (p′ ≡ p) ⊎ (isPromised p′ ≡ false) → p′ ≡ Promised m → p ≡ Promised m
@@ -59,7 +60,7 @@ less-promise (inr e) q = no-promise e q
 
 less-promised : {p p′ : PromiseState} → (p′ ≡ p) ⊎ (isPromised p′ ≡ false) → isPromised p′ ≡ true → isPromised p ≡ true
 less-promised (inl e) q = sym (ap isPromised e) ∙ q
-less-promised (inr e) q = absurd (both q e)
+less-promised (inr e) q = absurd (not-both q e)
 
 pub feeds-less-to : (n : Ballot) (t : ℕ) (s : State) (l l′ : LeaderState) → l′ .«n_leader» ≡ l .«n_leader» → (isPromised (place t l′ .promise) ≡ true → isPromised (place t l .promise) ≡ true)
     → feedsBy n t s l′ ≡ true → feedsBy n t s l ≡ true
@@ -101,7 +102,7 @@ module _ {z : Sizes} {P : ℕ → Type 0} {b : ℕ} {c : Scene} {g : Ghost ℕ} 
       noted t (inr e) w = record { reached = e .has }
 
       role : (rl : Role) (ph : Phase) → isLeader rl ≡ true → InRole z g b (x .storage) (x .log) (x .leader) (x .best) rl ph → InRole z g b (x .storage) (x .log) l (x .best) rl ph
-      role Follower ph e w = absurd (both e refl)
+      role Follower ph e w = absurd (not-both e refl)
       role Leader phase.Prepare e w =
           record {
             now = o .ballot ∙ w .now;
@@ -152,7 +153,7 @@ module _ {z : Sizes} {P : ℕ → Type 0} {b : ℕ} {c : Scene} {g : Ghost ℕ} 
       → Best x m sync (l .«max_promise») best → Well z P b c g (withBest best (withLeader l x))
   t-noted {sync} best st ans bst =
       booked v l best (λ n t. feedsIn n t (withBest best (withLeader l x))) (o .ballot) (λ t u. kept-part o (λ (d : Depot). d .«seq_num») refl t)
-      (λ n t _ u _ e. absurd (both e (feeds-early n t (x .state) l (ap (λ (s : State). isAcceptPhase (s .phase)) st))))
+      (λ n t _ u _ e. absurd (not-both e (feeds-early n t (x .state) l (ap (λ (s : State). isAcceptPhase (s .phase)) st))))
       (record {
         own = v .node .own;
         role = subst (λ (s : State). InRole z g b (x .storage) (x .log) l best (s .role) (s .phase)) (sym st) role;

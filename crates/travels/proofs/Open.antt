@@ -6,6 +6,7 @@ use mathlib.Core.Bool.{Bool, true, false, cond}
 use mathlib.Core.List.{List, [], _∷_, _++_, map-append, append-assoc}
 use native.Mathlib.Omega.{arith}
 use lib.ListN.{length, drop, length-drop}
+use Rattle.base.proofs.Tests.{not-both}
 use Rattle.base.specs.Limits.{maxDepots}
 use Rattle.ballot.specs.Ballot.{same}
 use Rattle.ballot.specs.declared.Ballot.{Ballot}
@@ -29,7 +30,6 @@ use Rattle.agreement.specs.Core.{Sizes, Ghost}
 use Rattle.agreement.specs.Facts.{Holds}
 use Rattle.agreement.specs.Report.{Report, Valid, Syncs}
 use Rattle.agreement.specs.Stream.{opens}
-use Rattle.agreement.proofs.Order.{both}
 use Rattle.agreement.proofs.Update.{ballot-eq, depot-eq}
 use Rattle.agreement.proofs.All.{all-append}
 use Rattle.agreement.proofs.Lead.{valid-own, valid-best, valid-decided, syncs}
@@ -113,7 +113,7 @@ module _ {z : Sizes} {P : ℕ → Type 0} {b : ℕ} {c : Scene} {g : Ghost ℕ} 
       ba = x .leader .«max_promise» .meta .«accepted_idx»
 
       apart : same (m .«n_accepted») n ≡ false → m .«n_accepted» ≢ n
-      apart e q = both (subst (λ k. same (m .«n_accepted») k ≡ true) q (same-self (m .«n_accepted»))) e
+      apart e q = not-both (subst (λ k. same (m .«n_accepted») k ≡ true) q (same-self (m .«n_accepted»))) e
 
       best : same (m .«n_accepted») n ≡ false → (s : Bool) → same (m .«n_accepted») bn ≡ s → Valid g t n (cond s (min ba (m .«accepted_idx»)) (m .«decided_idx»))
       best ne true e = valid-best (v .core) (leading .leads) (rw (same-eq (m .«n_accepted») bn e) at r)
@@ -195,7 +195,7 @@ module _ {z : Sizes} {P : ℕ → Type 0} {b : ℕ} {c : Scene} {g : Ghost ℕ} 
         where
           flow-other : (k : Ballot) (u : ℕ) → (fed′ k u ≡ true → fed k u ≡ true) → k ≢ n → FlowOf g (whole k u) (fed k u) k u (c .out u ++ forDepot u (x .queue)) (c .others u) x
               → FlowOf g (whole k u) (fed′ k u) k u (c .out u ++ forDepot u (x .queue)) (c .others u) y
-          flow-other k u p d f = flow-less _ (λ r. absurd (both r (leads-other k (x .state) l (o .ballot ∙ leading .now) d))) p f
+          flow-other k u p d f = flow-less _ (λ r. absurd (not-both r (leads-other k (x .state) l (o .ballot ∙ leading .now) d))) p f
       up k u q lu ne (inl e) (inl d) =
           subst (λ j. (j ≢ b) → FlowOf g (whole k j) (fed′ k j) k j (c .out j ++ forDepot j (x .queue ++ (opening t i x ∷ []))) (c .others j) y) (sym e)
           (subst (λ r. leaderOf r ≡ b → (t ≢ b) → FlowOf g (whole r t) (fed′ r t) r t (c .out t ++ forDepot t (x .queue ++ (opening t i x ∷ []))) (c .others t) y) (sym d) (λ q′ ne′. mine ne′ q′) q) ne

@@ -6,6 +6,7 @@ use mathlib.Core.Bool.{Bool, true, false}
 use mathlib.Core.List.{List, [], _∷_, _++_, map, append-assoc, append-nil}
 use native.Mathlib.Omega.{arith}
 use lib.ListN.{length, take, drop, set}
+use Rattle.base.proofs.Tests.{not-both}
 use Rattle.base.specs.Limits.{maxDepots}
 use Rattle.ballot.specs.declared.Ballot.{Ballot}
 use Rattle.sequence.specs.Sequence.{first}
@@ -24,7 +25,6 @@ use Rattle.agreement.specs.Core.{Sizes, Ghost}
 use Rattle.agreement.specs.Growth.{Moved}
 use Rattle.agreement.specs.All.{All, nil, cons}
 use Rattle.agreement.specs.Queue.{sel, There}
-use Rattle.agreement.proofs.Order.{both}
 use Rattle.agreement.proofs.Update.{depot-eq}
 use Rattle.agreement.proofs.Growth.{ext-refl}
 use Rattle.agreement.proofs.All.{all-sub, sub-front, sub-map}
@@ -111,7 +111,7 @@ module _ {z : Sizes} {P : ℕ → Type 0} {b : ℕ} {c : Scene} {g : Ghost ℕ} 
           role = v .node .role;
           cached = v .node .cached;
           buffered = v .node .buffered;
-          remembers = λ f. absurd (both f l);
+          remembers = λ f. absurd (not-both f l);
           meta = subst (λ m. MetaOk m (set (x .queue) at (acceptedMsg n k))) (sym is) (record { index = k; there = there-edit toOf (w .there) (acceptedMsg n k) refl });
           row = v .node .row;
         };
@@ -145,14 +145,14 @@ module _ {z : Sizes} {P : ℕ → Type 0} {b : ℕ} {c : Scene} {g : Ghost ℕ} 
   pub t-recovers : Next z P b c g (withState (record { role = Follower; phase = phase.Recover }) x)
   t-recovers =
       followed v still (v .only) (withState (record { role = Follower; phase = phase.Recover }) x) refl refl
-      (record { own = v .node .own; role = tt; cached = v .node .cached; buffered = v .node .buffered; remembers = λ e. absurd (both e refl); meta = v .node .meta; row = v .node .row })
+      (record { own = v .node .own; role = tt; cached = v .node .cached; buffered = v .node .buffered; remembers = λ e. absurd (not-both e refl); meta = v .node .meta; row = v .node .row })
       (λ n u ne. down-idle v still (withState (record { role = Follower; phase = phase.Recover }) x) n u ne refl refl)
 
   -- another leads: the phase stays
   pub t-stands-down : Next z P b c g (withState (record { role = Follower; phase = x .state .phase }) x)
   t-stands-down =
       followed v still (v .only) (withState (record { role = Follower; phase = x .state .phase }) x) refl refl
-      (record { own = v .node .own; role = role (x .state .phase) (λ e. e); cached = v .node .cached; buffered = v .node .buffered; remembers = λ e. absurd (both e refl); meta = v .node .meta; row = v .node .row })
+      (record { own = v .node .own; role = role (x .state .phase) (λ e. e); cached = v .node .cached; buffered = v .node .buffered; remembers = λ e. absurd (not-both e refl); meta = v .node .meta; row = v .node .row })
       (v .down)
     where
       role : (p : Phase) → (isAcceptPhase p ≡ true → isAcceptPhase (x .state .phase) ≡ true) → InRole z g b (x .storage) (x .log) (x .leader) (x .best) Follower p
@@ -187,7 +187,7 @@ t-restarted {z} {P} {b} {c} {g} {x} l row v =
       well = record {
         core = v .core;
         only = v .only;
-        node = record { own = v .node .own; role = tt; cached = tt; buffered = nil; remembers = λ e. absurd (both e refl); meta = tt; row = row };
+        node = record { own = v .node .own; role = tt; cached = tt; buffered = nil; remembers = λ e. absurd (not-both e refl); meta = tt; row = row };
         msgs = λ t. rw append-nil (all-sub (sub-front (c .out t) (forDepot t (x .queue))) (v .msgs t));
         down = λ n u ne. down-idle v (still v) (restartedTo l x) n u ne refl refl;
         up = λ n t o u ne. rw append-nil (flow-sub (sub-map (item n) (sub-front (c .out t) (forDepot t (x .queue)))) (up-left v (still v) (restartedTo l x) refl n t o u ne));

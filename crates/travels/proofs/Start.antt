@@ -6,6 +6,7 @@ use mathlib.Core.Bool.{true, false}
 use mathlib.Core.List.{List, [], _++_}
 use native.Mathlib.Omega.{arith}
 use lib.ListN.{length}
+use Rattle.base.proofs.Tests.{not-both}
 use Rattle.base.specs.Limits.{maxDepots}
 use Rattle.base.specs.Count.{countBelow}
 use Rattle.ballot.specs.Ballot.{default}
@@ -27,7 +28,6 @@ use Rattle.agreement.specs.Moves.{start, accept, Begins}
 use Rattle.agreement.specs.Facts.{Comm, Borne}
 use Rattle.agreement.specs.Report.{putOn, Told, Led}
 use Rattle.agreement.specs.All.{All, nil}
-use Rattle.agreement.proofs.Order.{both}
 use Rattle.agreement.proofs.Update.{ballot-eq, depot-eq}
 use Rattle.agreement.proofs.All.{all-append}
 use Rattle.agreement.proofs.Decided.{comm-on, comm-max}
@@ -53,9 +53,9 @@ metaOf (Promised m) = m
 metaOf PromisedHigher = record { «n_accepted» = default; «accepted_idx» = 0; «decided_idx» = 0; pid = 0 }
 
 pub promised-meta : (p : PromiseState) → isPromised p ≡ true → p ≡ Promised (metaOf p)
-promised-meta NotPromised e = absurd (both e refl)
+promised-meta NotPromised e = absurd (not-both e refl)
 promised-meta (Promised m) e = refl
-promised-meta PromisedHigher e = absurd (both e refl)
+promised-meta PromisedHigher e = absurd (not-both e refl)
 
 -- the leader's record: but for the own accepted index, and the held sync, which is put on, as it was
 pub record Begun (z : Sizes) (b : ℕ) (k : ℕ) (l l′ : LeaderState) : Type 0 where
@@ -184,5 +184,5 @@ module _ {z : Sizes} {P : ℕ → Type 0} {b : ℕ} {c : Scene} {g : Ghost ℕ} 
                 let k : (place t (x .leader) .«seq_num» .session ≡ v .up m t q u ne .back .session) × (place t (x .leader) .«seq_num» .counter ≡ v .up m t q u ne .back .counter)
                 = v .up m t q u ne .feeds .number (leads-now m (x .state) (x .leader) (ap (λ (s : State). isLeader (s .role)) st) (p .now ∙ sym e)) in
                 (ap (λ (s : SequenceNumber). s .session) (o .number t u) ∙ k .0, ap (λ (s : SequenceNumber). s .counter) (o .number t u) ∙ k .1);
-            whole = λ e. absurd (both e refl);
+            whole = λ e. absurd (not-both e refl);
           })

@@ -1,5 +1,7 @@
 -- `as_found::same_site` meets its contract: part for part.
-use Rattle.as_found.proofs.Laws.{failed, same-world}
+use Rattle.base.proofs.Tests.{not-both}
+use Rattle.as_found.proofs.Laws.{same-world}
+use mathlib.Core.Path.{refl}
 use borrow.Author.Tests.{not-false}
 use borrow.Author.Needs.{needs}
 use Rattle.as_found.proofs.same_site.Statement.{statement}
@@ -9,37 +11,37 @@ same-log-requires : tie.Need-same-log-requires
 same-log-requires c κs = search needs
 
 returns : tie.Need-returns
-returns c = λ e. failed e
+returns c = λ e. not-both e refl
 
 same-log-requires-2 : tie.Need-same-log-requires-2
 same-log-requires-2 c κs = search needs
 
 returns-2 : tie.Need-returns-2
-returns-2 c = λ e. failed e
+returns-2 c = λ e. not-both e refl
 
 same-log-requires-3 : tie.Need-same-log-requires-3
 same-log-requires-3 c κs = search needs
 
 returns-3 : tie.Need-returns-3
-returns-3 c = λ e. failed e
+returns-3 c = λ e. not-both e refl
 
 same-store-requires : tie.Need-same-store-requires
 same-store-requires c κs = search needs
 
 returns-4 : tie.Need-returns-4
-returns-4 c = λ e. failed e
+returns-4 c = λ e. not-both e refl
 
 same-book-requires : tie.Need-same-book-requires
 same-book-requires c κs = search needs
 
 returns-5 : tie.Need-returns-5
-returns-5 c = λ e. failed e
+returns-5 c = λ e. not-both e refl
 
 same-row-requires : tie.Need-same-row-requires
 same-row-requires c κs = search needs
 
 returns-6 : tie.Need-returns-6
-returns-6 c = λ e. failed e
+returns-6 c = λ e. not-both e refl
 
 same-record-requires : tie.Need-same-record-requires
 same-record-requires c κs = search needs

@@ -9,6 +9,7 @@ use mathlib.Core.Bool.{Bool, true, false}
 use borrow.Author.Needs.{needs}
 use mathlib.Core.List.{List}
 use mathlib.Core.Path.{_≡_, refl, ap, subst}
+use Rattle.base.proofs.Tests.{not-both}
 use Rattle.cluster.proofs.same.Statement.{statement}
 use Rattle.cluster.proofs.same.Tie as tie
 
@@ -18,11 +19,8 @@ Inv-loop a b i₀ i = ((k : ℕ) → k < i → getD a k 0 ≡ getD b k 0) × (i 
 abbrev μ-loop : tie.MeasureT-loop
 μ-loop a b i₀ i = length a - i
 
-never : {X : Type 0} → _≡_ {A = Bool} false true → X
-never e = absurd (let w : _≡_ {A = ℕ} 0 1 = cc in omega arith)
-
 returns : tie.Need-returns Inv-loop μ-loop
-returns c = ((λ e. never e), (λ e. absurd ((c .if1 .taken) (ap (λ (l : List ℕ). length l) e))))
+returns c = ((λ e. not-both e refl), (λ e. absurd ((c .if1 .taken) (ap (λ (l : List ℕ). length l) e))))
 
 loop-holds : tie.Need-loop-holds Inv-loop μ-loop
 loop-holds c = (below-none (λ k. getD (c .before .args .a .now) k 0 ≡ getD (c .before .args .b .now) k 0), search needs)
@@ -40,7 +38,7 @@ shared-slice-read-if2-2 : tie.Need-shared-slice-read-if2-2 Inv-loop μ-loop
 shared-slice-read-if2-2 c = search needs
 
 returns-2 : tie.Need-returns-2 Inv-loop μ-loop
-returns-2 c = ((λ e. never e), (λ e. absurd ((c .if2 .taken) (ap (λ (l : List ℕ). getD l (c .before .before .before .before .loop .i) 0) e))))
+returns-2 c = ((λ e. not-both e refl), (λ e. absurd ((c .if2 .taken) (ap (λ (l : List ℕ). getD l (c .before .before .before .before .loop .i) 0) e))))
 
 add-i : tie.Need-add-i Inv-loop μ-loop
 add-i c = search needs
