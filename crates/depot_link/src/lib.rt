@@ -4,12 +4,13 @@ ghost use mathlib.Core.Bool.{cond};
 ghost use lib.Dec.{eqb};
 ghost use lib.ListN.{length};
 ghost use Rattle.broken.specs.Lent.{lent};
-ghost use Rattle.step.specs.Step.{stepOf};
+ghost use Rattle.step.specs.Step.{stepOf, seen, world};
 ghost use Rattle.layout_record.specs.Words.{recordLength, recordWords};
 ghost use Rattle.layout_row.specs.Row.{rowLength, rowWords, rowIn};
 ghost use Rattle.depot_link.specs.Link.{held, told, linked, wordsOff, nodeIn, worldIn, configurationOf, eventOf, writtenBack, linkedStep, Follows, fresh, freshIn};
 ghost use Rattle.depot_link.specs.Report.{reported, reportIn};
 use messages::Event;
+use messages::Row;
 use quorum::Configuration;
 use record::Record;
 use step::Answer;
@@ -81,6 +82,28 @@ fn write_back(node: &mut [u64], row: &mut [u64], x: Step)
     layout_row::write_row(row, x.row);
 }
 
+// The step, with the row of heads lent to `depot::step` on the way, or by value: the promise is the same.
+fn step_by(
+    c: Configuration,
+    r: Record,
+    row: Row,
+    log: &mut [u64],
+    cached: &mut [u64],
+    best: &mut [u64],
+    store: &mut [u64],
+    book: &mut [u64],
+    e: Event,
+    entries: &[u64],
+    lend: bool,
+) -> Step
+    ensures { λ x. ⌜ seen x (lent (now (log .exit)) (now (cached .exit)) (now (best .exit)) (now (store .exit)) (now (book .exit))) ≡ stepOf c e (now (entries .entry)) (world r row (lent (now (log .entry)) (now (cached .entry)) (now (best .entry)) (now (store .entry)) (now (book .entry)))) ⌝ }
+{
+    if lend {
+        return own_row::step(c, r, row, log, cached, best, store, book, e, entries);
+    }
+    depot_row::step_row(c, r, row, log, cached, best, store, book, e, entries)
+}
+
 // The step over a record and a row of the right length.
 fn step_words(
     c: Configuration,
@@ -93,6 +116,7 @@ fn step_words(
     store: &mut [u64],
     book: &mut [u64],
     entries: &[u64],
+    lend: bool,
 ) -> Answer
     requires { ⌜ length (now node) ≡ recordLength ⌝ }
     requires { ⌜ length (now row) ≡ rowLength ⌝ }
@@ -101,9 +125,65 @@ fn step_words(
 {
     let r = node_in(node, row);
     let heads = layout_row::read_row(row);
-    let x = own_row::step(c, r, heads, log, cached, best, store, book, e, entries);
+    let x = step_by(
+        c,
+        r,
+        heads,
+        log,
+        cached,
+        best,
+        store,
+        book,
+        e,
+        entries,
+        lend,
+    );
     write_back(node, row, x);
     x.answer
+}
+
+// The step over slices of any length.
+fn linked_step(
+    configuration: &[u64],
+    record: &mut [u64],
+    row: &mut [u64],
+    log: &mut [u64],
+    cached: &mut [u64],
+    best: &mut [u64],
+    store: &mut [u64],
+    book: &mut [u64],
+    event: &[u64],
+    entries: &[u64],
+    dropped: &mut u64,
+    handed_out: &mut u64,
+    lend: bool,
+) -> u32
+    ensures { λ r. ⌜ linked r (now (dropped .exit)) (now («handed_out» .exit)) (held (now («record» .exit)) (now (row .exit)) (lent (now (log .exit)) (now (cached .exit)) (now (best .exit)) (now (store .exit)) (now (book .exit)))) ≡ linkedStep (now (configuration .entry)) (now (event .entry)) (now (entries .entry)) (held (now («record» .entry)) (now (row .entry)) (lent (now (log .entry)) (now (cached .entry)) (now (best .entry)) (now (store .entry)) (now (book .entry)))) ⌝ }
+    ensures { λ _. ⌜ Follows (now (configuration .entry)) (now (event .entry)) (now (entries .entry)) (held (now («record» .entry)) (now (row .entry)) (lent (now (log .entry)) (now (cached .entry)) (now (best .entry)) (now (store .entry)) (now (book .entry)))) (held (now («record» .exit)) (now (row .exit)) (lent (now (log .exit)) (now (cached .exit)) (now (best .exit)) (now (store .exit)) (now (book .exit)))) ⌝ }
+{
+    *dropped = 0;
+    *handed_out = 0;
+    if words_off(configuration.len(), record.len(), row.len(), event.len()) {
+        return 1;
+    }
+    let c = configuration_of(configuration);
+    let e = event_of(event);
+    let a = step_words(
+        c,
+        e,
+        record,
+        row,
+        log,
+        cached,
+        best,
+        store,
+        book,
+        entries,
+        lend,
+    );
+    *dropped = a.dropped as u64;
+    *handed_out = a.handed_out as u64;
+    a.no
 }
 
 // One step. The answer is document 01's number; how many buffered entries were dropped, and how many messages a drain handed out, go to
@@ -126,17 +206,57 @@ pub extern "C" fn depots_step(
     ensures { λ r. ⌜ linked r (now (dropped .exit)) (now («handed_out» .exit)) (held (now («record» .exit)) (now (row .exit)) (lent (now (log .exit)) (now (cached .exit)) (now (best .exit)) (now (store .exit)) (now (book .exit)))) ≡ linkedStep (now (configuration .entry)) (now (event .entry)) (now (entries .entry)) (held (now («record» .entry)) (now (row .entry)) (lent (now (log .entry)) (now (cached .entry)) (now (best .entry)) (now (store .entry)) (now (book .entry)))) ⌝ }
     ensures { λ _. ⌜ Follows (now (configuration .entry)) (now (event .entry)) (now (entries .entry)) (held (now («record» .entry)) (now (row .entry)) (lent (now (log .entry)) (now (cached .entry)) (now (best .entry)) (now (store .entry)) (now (book .entry)))) (held (now («record» .exit)) (now (row .exit)) (lent (now (log .exit)) (now (cached .exit)) (now (best .exit)) (now (store .exit)) (now (book .exit)))) ⌝ }
 {
-    *dropped = 0;
-    *handed_out = 0;
-    if words_off(configuration.len(), record.len(), row.len(), event.len()) {
-        return 1;
-    }
-    let c = configuration_of(configuration);
-    let e = event_of(event);
-    let a = step_words(c, e, record, row, log, cached, best, store, book, entries);
-    *dropped = a.dropped as u64;
-    *handed_out = a.handed_out as u64;
-    a.no
+    linked_step(
+        configuration,
+        record,
+        row,
+        log,
+        cached,
+        best,
+        store,
+        book,
+        event,
+        entries,
+        dropped,
+        handed_out,
+        false,
+    )
+}
+
+// The same step with its row of heads lent to `depot::step` on the way, as a caller in Rattle lends it: for the replay and the benchmark.
+#[no_mangle]
+pub extern "C" fn depots_step_lent(
+    configuration: &[u64],
+    record: &mut [u64],
+    row: &mut [u64],
+    log: &mut [u64],
+    cached: &mut [u64],
+    best: &mut [u64],
+    store: &mut [u64],
+    book: &mut [u64],
+    event: &[u64],
+    entries: &[u64],
+    dropped: &mut u64,
+    handed_out: &mut u64,
+) -> u32
+    ensures { λ r. ⌜ linked r (now (dropped .exit)) (now («handed_out» .exit)) (held (now («record» .exit)) (now (row .exit)) (lent (now (log .exit)) (now (cached .exit)) (now (best .exit)) (now (store .exit)) (now (book .exit)))) ≡ linkedStep (now (configuration .entry)) (now (event .entry)) (now (entries .entry)) (held (now («record» .entry)) (now (row .entry)) (lent (now (log .entry)) (now (cached .entry)) (now (best .entry)) (now (store .entry)) (now (book .entry)))) ⌝ }
+    ensures { λ _. ⌜ Follows (now (configuration .entry)) (now (event .entry)) (now (entries .entry)) (held (now («record» .entry)) (now (row .entry)) (lent (now (log .entry)) (now (cached .entry)) (now (best .entry)) (now (store .entry)) (now (book .entry)))) (held (now («record» .exit)) (now (row .exit)) (lent (now (log .exit)) (now (cached .exit)) (now (best .exit)) (now (store .exit)) (now (book .exit)))) ⌝ }
+{
+    linked_step(
+        configuration,
+        record,
+        row,
+        log,
+        cached,
+        best,
+        store,
+        book,
+        event,
+        entries,
+        dropped,
+        handed_out,
+        true,
+    )
 }
 
 // The report of a book, as text at the start of `out`, whose further bytes stay; `count` is how many bytes it has, 0 where it is refused.

@@ -4,6 +4,7 @@ use Rattle.depot_link.specs.Link.{Linked, Fresh}
 use Rattle.depot_link.specs.Report.{Reported}
 use Rattle.depot_link.proofs.depots_fresh.Reads as fresh-reads
 use Rattle.depot_link.proofs.depots_step.Reads as step-reads
+use Rattle.depot_link.proofs.depots_step_lent.Reads as lent-reads
 use Rattle.depot_link.proofs.depots_report.Reads as report-reads
 
 pub depots-fresh : (κs : _) (a : _) (r₁ r₂ : _) (s₁ s₂ : _) → fresh-reads.Post κs a r₁ s₁ → fresh-reads.Post κs a r₂ s₂ → (r₁ ≡ r₂) × (s₁ .0 .now ≡ s₂ .0 .now)
@@ -26,6 +27,10 @@ depots-step κs a r₁ r₂ s₁ s₂ p q =
       ap (λ (x : Linked). x .answer .dropped) e,
       ap (λ (x : Linked). x .answer .«handed_out») e,
     )
+
+-- the step with its row lent on the way promises what the other does, so its outcome is one, and the same
+pub depots-step-lent : (κs : _) (a : _) (r : _) (s : _) → lent-reads.Post κs a r s → step-reads.Post κs a r s
+depots-step-lent κs a r s p = p
 
 pub depots-report : (κs : _) (a : _) (r₁ r₂ : _) (s₁ s₂ : _) → report-reads.Post κs a r₁ s₁ → report-reads.Post κs a r₂ s₂ → (r₁ ≡ r₂) × (s₁ .1 .0 .now ≡ s₂ .1 .0 .now) × (s₁ .1 .1 .0 .now ≡ s₂ .1 .1 .0 .now)
 depots-report κs a r₁ r₂ s₁ s₂ p q = (ap (λ (x : Reported). x .number) (p ∙ sym q), ap (λ (x : Reported). x .out) (p ∙ sym q), ap (λ (x : Reported). x .count) (p ∙ sym q))

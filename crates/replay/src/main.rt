@@ -221,7 +221,7 @@ fn step(memory: &mut [u64], entries: u64, args: [u64; 4]) -> bool {
     let mut book = words_768(memory, BOOK);
     let mut dropped: u64 = 0;
     let mut handed_out: u64 = 0;
-    let no = depot_link::depots_step(
+    let no = depot_link::depots_step_lent(
         &configuration,
         &mut record,
         &mut row,

@@ -1,12 +1,12 @@
--- `depots_step` meets its contract.
+-- `linked_step` meets its contract.
 use Rattle.depot_link.proofs.Link.{words-right, link-back, link-follows, link-off, off-follows}
 use Rattle.depot_link.specs.Link.{held}
 use Rattle.broken.specs.Lent.{lent}
 use lib.ListN.{length}
 use mathlib.Core.Path.{sym, _∙_}
 use borrow.Author.Needs.{needs}
-use Rattle.depot_link.proofs.depots_step.Statement.{statement}
-use Rattle.depot_link.proofs.depots_step.Tie as tie
+use Rattle.depot_link.proofs.linked_step.Statement.{statement}
+use Rattle.depot_link.proofs.linked_step.Tie as tie
 
 words-off-requires : tie.Need-words-off-requires
 words-off-requires c κs = search needs
@@ -53,8 +53,8 @@ returns-2 c = let h = held (c .before .before .before .before .before .before .b
       link-follows (c .before .before .before .before .before .before .before .before .before .before .before .before .before .before .before .before .before .before .before .before .before .before .before .before .before .before .before .before .before .before .before .before .before .before .before .before .args .configuration .now) (c .before .before .before .before .before .before .before .before .before .before .before .before .before .before .before .before .before .before .before .before .before .before .before .before .before .before .before .before .before .before .before .before .before .before .before .before .args .event .now) (c .before .before .before .before .before .before .before .before .before .before .before .before .before .before .before .before .before .before .before .before .before .before .before .before .before .before .before .before .before .before .before .before .before .before .before .before .args .entries .now) h (c .before .before .before .before .before .before .before .before .before .before .before .before .before .before .before .before .before .before .before .before .before .before .before .configuration-of .result) (c .before .before .before .before .before .before .before .before .before .before .before .before .before .before .before .before .before .before .before .before .before .before .event-of .result) _ (c .before .before .before .before .before .before .before .before .before .before .before .before .before .before .before .before .before .before .before .before .before .before .before .configuration-of .ensures) (c .before .before .before .before .before .before .before .before .before .before .before .before .before .before .before .before .before .before .before .before .before .before .event-of .ensures) (c .before .before .before .before .before .before .before .before .before .before .before .before .before .before .step-words .ensures .1),
     )
 
-pub depots-step-spec : {M : Type 1} → statement M
-depots-step-spec =
+pub linked-step-spec : {M : Type 1} → statement M
+linked-step-spec =
     tie.close
     (tie.spec
     words-off-requires
