@@ -37,6 +37,19 @@ uint32_t depots_step(const uint64_t *configuration, size_t configuration_words,
                      const uint64_t *entries, size_t entries_words,
                      uint64_t *dropped, uint64_t *handed_out);
 
+/* The same step, which lends its row of heads to the proved step on the way as a caller in Rattle does. Same promise, slower: for tests and the benchmark. */
+uint32_t depots_step_lent(const uint64_t *configuration, size_t configuration_words,
+                          uint64_t *record, size_t record_words,
+                          uint64_t *row, size_t row_words,
+                          uint64_t *log, size_t log_words,
+                          uint64_t *cached, size_t cached_words,
+                          uint64_t *best, size_t best_words,
+                          uint64_t *store, size_t store_words,
+                          uint64_t *book, size_t book_words,
+                          const uint64_t *event, size_t event_words,
+                          const uint64_t *entries, size_t entries_words,
+                          uint64_t *dropped, uint64_t *handed_out);
+
 /* The report of a book, at the start of out; *count is its length in bytes. 1: a wrong length or out shorter than DEPOTS_REPORT; 2: a broken book. */
 uint32_t depots_report(const uint64_t *book, size_t book_words, uint8_t *out, size_t out_bytes, uint64_t *count);
 

@@ -1,6 +1,7 @@
 // The port's side: a box as the words of docs/LAYOUT.md, stepped by the linked library.
 use crate::random::Random;
 use omnipaxos::plain::*;
+use std::sync::OnceLock;
 
 pub const CONFIGURATION: usize = 16;
 pub const RECORD: usize = 192;
@@ -21,6 +22,27 @@ extern "C" {
         event: *const u64, event_words: usize, entries: *const u64, entries_words: usize,
         dropped: *mut u64, handed_out: *mut u64,
     ) -> u32;
+    fn depots_step_lent(
+        configuration: *const u64, configuration_words: usize, record: *mut u64, record_words: usize,
+        row: *mut u64, row_words: usize, log: *mut u64, log_words: usize,
+        cached: *mut u64, cached_words: usize, best: *mut u64, best_words: usize,
+        store: *mut u64, store_words: usize, book: *mut u64, book_words: usize,
+        event: *const u64, event_words: usize, entries: *const u64, entries_words: usize,
+        dropped: *mut u64, handed_out: *mut u64,
+    ) -> u32;
+}
+
+/// The linked step, or the same with its row of heads lent to `depot::step`.
+#[derive(Clone, Copy, PartialEq, Eq)]
+pub enum By {
+    Value,
+    Lent,
+}
+
+/// By which of them the comparison steps: `oracle/compare --lent` sets LENT.
+fn by() -> By {
+    static BY: OnceLock<By> = OnceLock::new();
+    *BY.get_or_init(|| if std::env::var_os("LENT").is_some() { By::Lent } else { By::Value })
 }
 
 #[derive(Clone, Copy, Debug, PartialEq, Eq)]
@@ -186,10 +208,18 @@ impl Words {
     }
 
     pub fn step_words(&mut self, event: &[u64], entries: &[u64]) -> Answer {
+        self.step_words_by(by(), event, entries)
+    }
+
+    pub fn step_words_by(&mut self, by: By, event: &[u64], entries: &[u64]) -> Answer {
+        let call = match by {
+            By::Value => depots_step,
+            By::Lent => depots_step_lent,
+        };
         let (mut dropped, mut handed_out) = (u64::MAX, u64::MAX);
         #[rustfmt::skip]
         let no = unsafe {
-            depots_step(
+            call(
                 self.configuration.as_ptr(), self.configuration.len(), self.record.as_mut_ptr(), self.record.len(),
                 self.row.as_mut_ptr(), self.row.len(), self.log.as_mut_ptr(), self.log.len(),
                 self.cached.as_mut_ptr(), self.cached.len(), self.best.as_mut_ptr(), self.best.len(),
