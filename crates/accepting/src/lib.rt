@@ -1,4 +1,6 @@
 // What a follower does with AcceptSync, AcceptDecide and Decide (follower.rs). Each function takes the box and hands it back.
+#![tactic(auto)]
+
 ghost use Rattle.std.specs.Prelude.{◌≡◌, ◌+◌, ◌≤◌, min};
 ghost use Rattle.paxos_box.specs.Room.{Room};
 ghost use Rattle.accepting.specs.Accepting.{not_accepted, send_accepted, acceptsync_put, following, acceptsync_taken, acceptsync_in, handle_acceptsync, counter_at_top, at_if_same, of_ballot, latest_accepted, raise_accepted, reply_accepted, update_decided, acceptdecide_taken, acceptdecide_fit, acceptdecide_expected, acceptdecide_in, handle_acceptdecide, decide_taken, decide_expected, decide_in_accept, handle_decide};

@@ -1,4 +1,6 @@
 // Whether all that a step was lent is as found: the record and the row as words (docs/LAYOUT.md), and the lists, cell by cell.
+#![tactic(auto)]
+
 ghost use Rattle.std.specs.Prelude.{◌≡◌, true};
 ghost use Rattle.cluster.specs.Cluster.{world_of};
 

@@ -1,16 +1,18 @@
 // Ballots and their order (ballot_leader_election.rs).
+#![tactic(auto)]
+
 ghost use Rattle.std.specs.Prelude.{◌≡◌};
 ghost use Rattle.ballot.specs.Ballot.{compare_of, same, above, is_default, default};
 
 // (round, priority, pid), compared in that order; all zero is the default.
-#[derive(Drop)]
+#[derive(Clone, Copy)]
 pub struct Ballot {
     pub n: u32,
     pub priority: u32,
     pub pid: u64,
 }
 
-#[derive(Drop)]
+#[derive(Clone, Copy)]
 pub enum Order {
     Less,
     Equal,

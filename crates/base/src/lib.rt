@@ -1,4 +1,6 @@
 // What every crate shares: the limits of document 01, rulesets, and laws on lists, counts and ordered refusals.
+#![tactic(auto)]
+
 ghost use Rattle.std.specs.Prelude.{◌≡◌};
 ghost use Rattle.base.specs.Limits.{limits_of};
 
@@ -25,7 +27,7 @@ pub const PUMPS: usize = 256;
 pub const LARGEST: u64 = 0xffff_ffff_ffff_ffff;
 
 // The limits side by side, so that each constant is shown once to be its definition's number.
-#[derive(Drop)]
+#[derive(Clone, Copy)]
 pub struct Limits {
     pub min_depots: u64,
     pub max_depots: u64,

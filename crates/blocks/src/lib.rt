@@ -1,4 +1,6 @@
 // Blocks of sixteen words: one read from a slice, one written to it, whether a word of one is above its most; and the ballot that three words are.
+#![tactic(auto)]
+
 ghost use Rattle.std.specs.Prelude.{◌≡◌, ◌+◌, ◌*◌, ◌≤◌, length};
 ghost use Rattle.base.specs.Limits.{max_messages};
 ghost use Rattle.storage.specs.Storage.{put_at};

@@ -1,4 +1,6 @@
 // Refusal 2: the record is broken (document 01, "When a box says no").
+#![tactic(auto)]
+
 ghost use Rattle.std.specs.Prelude.{◌≡◌, ◌≤◌, length};
 ghost use Rattle.base.specs.Limits.{max_depots, max_messages};
 ghost use Rattle.hire_book.specs.Book.{book_length};

@@ -1,1 +1,2 @@
 // No code: cells that nothing uses keep what they held.
+#![tactic(auto)]

@@ -1,4 +1,6 @@
 // A depot with all that is lent to its steps, by value, and three of them side by side: what the programs that run steps share.
+#![tactic(auto)]
+
 ghost use Rattle.std.specs.Prelude.{◌≡◌, true, [], ◌∷◌, ◌<◌};
 ghost use Rattle.messages.specs.Messages.{no_head};
 ghost use Rattle.cluster.specs.Cluster.{majority, fresh_site, step_site, head_in, receive_site, place_of, site_at, with_site, moved_to, step_at, carried, deliver_at};
@@ -11,7 +13,7 @@ use record::Record;
 use step::Answer;
 
 // A depot: the lists, its configuration, its record and its row of heads.
-#[derive(Drop)]
+#[derive(Clone, Copy)]
 pub struct Site {
     pub log: [u64; MAX_LOG],
     pub cached: [u64; MAX_LOG],
@@ -24,20 +26,20 @@ pub struct Site {
 }
 
 // The depots of pid 1, 2 and 3.
-#[derive(Drop)]
+#[derive(Clone, Copy)]
 pub struct Cluster {
     pub sites: [Site; 3],
 }
 
 // What a step answered, and the depot after it.
-#[derive(Drop)]
+#[derive(Clone, Copy)]
 pub struct Stepped {
     pub answer: Answer,
     pub site: Site,
 }
 
 // What a step of one of them answered, and all of them after it.
-#[derive(Drop)]
+#[derive(Clone, Copy)]
 pub struct Moved {
     pub answer: Answer,
     pub cluster: Cluster,

@@ -1,4 +1,6 @@
 // Three depots that elect, propose, lose messages, restart and reconnect, and end with equal books.
+#![tactic(auto)]
+
 use ballot::Ballot;
 use cluster::Cluster;
 use messages::Event;

@@ -1,4 +1,6 @@
 // Decimal numbers and texts, put into a lent buffer from a place on. Each call answers the place after what it put.
+#![tactic(auto)]
+
 ghost use Rattle.std.specs.Prelude.{[], ◌∷◌, ◌+◌, ◌≤◌, ◌<◌, length};
 ghost use Rattle.decimal.specs.Digits.{decimal_of};
 ghost use Rattle.decimal.specs.Text.{Put};

@@ -1,4 +1,6 @@
 // The step of a depot's box with everything lent: the queue as a row of message heads, and the lists beside it. Thin over `depot_row::step_row`, which takes the row by value.
+#![tactic(auto)]
+
 ghost use Rattle.std.specs.Prelude.{◌≡◌};
 ghost use Rattle.broken.specs.Lent.{lent};
 ghost use Rattle.outgoing.specs.Packing.{row_of};
@@ -12,7 +14,7 @@ use record::Record;
 use step::{Answer, Step};
 
 // What a step hands back: the answer and the record. All else is lent.
-#[derive(Drop)]
+#[derive(Clone, Copy)]
 pub struct Stepped {
     pub answer: Answer,
     pub node: Record,

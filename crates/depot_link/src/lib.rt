@@ -1,4 +1,6 @@
 // The library to link from Rust or C: a fresh record, a step and a report, over slices of words (docs/LAYOUT.md, include/depots.h).
+#![tactic(auto)]
+
 ghost use Rattle.std.specs.Prelude.{◌≡◌, cond, eqb, length};
 ghost use Rattle.broken.specs.Lent.{lent};
 ghost use Rattle.step.specs.Step.{step_of, seen, world};

@@ -1,4 +1,6 @@
 // One step of a depot's box: refuse, or decide in numbers, then write what was decided. Everything is lent; a refused step alters nothing.
+#![tactic(auto)]
+
 ghost use Rattle.std.specs.Prelude.{◌≡◌, false, ◌+◌, ◌≤◌, length, take};
 ghost use Rattle.base.specs.Limits.{max_log, max_buffered, max_messages};
 ghost use Rattle.hire_book.specs.Book.{book_length, Sound, any_above, apply_all, book_of};

@@ -1,1 +1,2 @@
 // No code: each handler of a step, as protocol events of `travels`. The definitions stand in specs/, the theorems in proofs/.
+#![tactic(auto)]

@@ -1,4 +1,6 @@
 // What a follower does with a Prepare, and its resend (follower.rs). Each function takes the box and hands it back.
+#![tactic(auto)]
+
 ghost use Rattle.std.specs.Prelude.{◌≡◌, ◌≤◌};
 ghost use Rattle.paxos_box.specs.Room.{Room};
 ghost use Rattle.follower.specs.Follower.{log_from, promised_sync, start_of, count_of, log_source, cached_source, kept_sync, build_fits, promise_of, send_promise, cache_promise, tell_promise, promise_to, prepare_taken, handle_prepare, prepare_reqs, resend_promise, resend_cached, few_cached, resend_messages_follower};

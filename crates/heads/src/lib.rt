@@ -1,4 +1,6 @@
 // Tests over the heads that wait in the row: where their entries lie in the store, the ballots they name, the entries themselves.
+#![tactic(auto)]
+
 ghost use Rattle.std.specs.Prelude.{◌≡◌, ◌≤◌};
 ghost use Rattle.base.specs.Limits.{max_messages};
 ghost use Rattle.heads.specs.Heads.{any_head, outside, overlap, any_overlap, head_above, head_test};
@@ -9,7 +11,7 @@ use quorum::Configuration;
 
 // What is asked of each head: whether its entries lie outside the store; whether they overlap the cells from a start on, so many; whether it
 // names a nonzero ballot whose pid is no depot.
-#[derive(Drop)]
+#[derive(Clone, Copy)]
 pub enum HeadTest {
     Outside,
     Overlap(usize, usize),

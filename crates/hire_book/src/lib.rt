@@ -1,4 +1,6 @@
 // The hire book (document 01, "The hire book"): a lent row of cells, three a pump, to which entries are applied. specs/Book.antt has the layout.
+#![tactic(auto)]
+
 ghost use Rattle.std.specs.Prelude.{◌≡◌, false, ◌≤◌, ◌<◌, length, replicate};
 ghost use Rattle.base.specs.Limits.{pumps, max_day, max_entry};
 ghost use Rattle.hire_book.specs.Hire.{out_kind, back_kind};
@@ -24,7 +26,7 @@ pub const CHARGED: usize = 2;
 pub const BOOK: usize = base::PUMPS * CELLS;
 
 // What a call that reads days answers.
-#[derive(Drop)]
+#[derive(Clone, Copy)]
 pub enum Answer {
     WrongLength,
     Broken,

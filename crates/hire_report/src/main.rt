@@ -1,9 +1,11 @@
 // Reads entries from standard input, one decimal a line, and writes the report of their history to standard output.
+#![tactic(auto)]
+
 use libc::{STDERR_FILENO, STDIN_FILENO, STDOUT_FILENO};
 use report::Reader;
 
 // What a turn of reading leaves: the reader, and whether there may be more to read.
-#[derive(Drop)]
+#[derive(Clone, Copy)]
 struct Turn {
     reader: Reader,
     more: bool,

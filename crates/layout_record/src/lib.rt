@@ -1,4 +1,6 @@
 // A record as words, twelve blocks of sixteen, and the record that words mean (docs/LAYOUT.md).
+#![tactic(auto)]
+
 ghost use Rattle.std.specs.Prelude.{◌≡◌, map, length};
 ghost use Rattle.base.specs.Limits.{max_buffered};
 ghost use Rattle.storage.specs.Storage.{put_at};

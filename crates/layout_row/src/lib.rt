@@ -1,4 +1,6 @@
 // Heads, the row of them, events and configurations as words, and what words mean of these (docs/LAYOUT.md).
+#![tactic(auto)]
+
 ghost use Rattle.std.specs.Prelude.{◌≡◌, false, length};
 ghost use Rattle.layout_row.specs.Fields.{sync_tag, sync_at, fields_as, promise_fields, fields_of, sync_of, promise_of, message_of, fields_in};
 ghost use Rattle.layout_row.specs.Row.{row_length, head_words, row_words, NarrowHead, head_in, head_most, no_row, row_in};
@@ -17,7 +19,7 @@ const HEADS: usize = 64;
 pub const ROW: usize = HEADS * blocks::WORDS;
 
 // A message as its kind and every field that some kind has; a field that the kind has not is 0.
-#[derive(Drop)]
+#[derive(Clone, Copy)]
 pub struct Fields {
     pub kind: u64,
     pub n: Ballot,

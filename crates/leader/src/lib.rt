@@ -1,4 +1,6 @@
 // What a leader does with each event (leader.rs). Each function takes the box and hands it back.
+#![tactic(auto)]
+
 ghost use Rattle.std.specs.Prelude.{◌≡◌, ◌+◌, ◌≤◌, ◌<◌};
 ghost use Rattle.leader_state.specs.State.{own_place};
 ghost use Rattle.paxos_box.specs.Room.{Room};

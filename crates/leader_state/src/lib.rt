@@ -1,4 +1,6 @@
 // What a leader keeps of each depot, and the best promise (LeaderState of util.rs).
+#![tactic(auto)]
+
 ghost use Rattle.std.specs.Prelude.{◌≡◌, ◌+◌, ◌≤◌, ◌<◌, max, min};
 ghost use Rattle.base.specs.Limits.{max_depots, largest};
 ghost use Rattle.base.specs.Count.{one};
@@ -11,7 +13,7 @@ use quorum::Configuration;
 use sequence::SequenceNumber;
 
 // A promise without the log update.
-#[derive(Drop)]
+#[derive(Clone, Copy)]
 pub struct PromiseMetaData {
     pub n_accepted: Ballot,
     pub accepted_idx: usize,
@@ -19,7 +21,7 @@ pub struct PromiseMetaData {
     pub pid: u64,
 }
 
-#[derive(Drop)]
+#[derive(Clone, Copy)]
 pub enum PromiseState {
     NotPromised,
     Promised(PromiseMetaData),
@@ -27,14 +29,14 @@ pub enum PromiseState {
 }
 
 // Where an AcceptDecide that still waits stands in the queue.
-#[derive(Drop)]
+#[derive(Clone, Copy)]
 pub enum Latest {
     Nothing,
     At(usize),
 }
 
 // One depot's place: its promise, the last number sent to it, its reported accepted index, its remembered AcceptDecide.
-#[derive(Drop)]
+#[derive(Clone, Copy)]
 pub struct Depot {
     pub promise: PromiseState,
     pub seq_num: SequenceNumber,
@@ -43,34 +45,34 @@ pub struct Depot {
 }
 
 // A log sync whose entries lie in a lent buffer: where it starts, and how many they are.
-#[derive(Drop)]
+#[derive(Clone, Copy)]
 pub struct LogSync {
     pub sync_idx: usize,
     pub len: usize,
 }
 
-#[derive(Drop)]
+#[derive(Clone, Copy)]
 pub enum HeldSync {
     Nothing,
     Held(LogSync),
 }
 
 // The best promise and the log sync that came with it.
-#[derive(Drop)]
+#[derive(Clone, Copy)]
 pub struct MaxPromise {
     pub meta: PromiseMetaData,
     pub sync: HeldSync,
 }
 
 // The depots of pid 1 up lie at the places 0 up. Places past the configuration's depots are neither read nor changed.
-#[derive(Drop)]
+#[derive(Clone, Copy)]
 pub struct LeaderState {
     pub n_leader: Ballot,
     pub depots: [Depot; 7],
     pub max_promise: MaxPromise,
 }
 
-#[derive(Drop)]
+#[derive(Clone, Copy)]
 pub struct SetPromise {
     pub state: LeaderState,
     pub reached: bool,

@@ -1,4 +1,6 @@
 // The queue as the caller lends it: a row of message heads, read and written in place. Each function over it is thin: what is decided of a head is decided by value.
+#![tactic(auto)]
+
 ghost use Rattle.std.specs.Prelude.{◌≡◌, ◌<◌, length, set, get_or};
 ghost use Rattle.base.specs.Limits.{max_messages};
 ghost use Rattle.messages.specs.Messages.{no_head};

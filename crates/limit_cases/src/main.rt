@@ -1,4 +1,6 @@
 // The limits (docs/RULES.md, R1.6), each met and then passed, and every refusal with everything lent shown unchanged. One line a case.
+#![tactic(auto)]
+
 use ballot::Ballot;
 use cluster::Site;
 use leader_state::LeaderState;

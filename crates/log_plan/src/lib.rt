@@ -1,4 +1,6 @@
 // What a step decides about the log and the buffered proposals: a sync put on, entries appended, proposals forwarded or buffered (storage/, mod.rs).
+#![tactic(auto)]
+
 ghost use Rattle.std.specs.Prelude.{◌≡◌, false, ◌+◌, ◌≤◌, ◌<◌, max, min};
 ghost use Rattle.base.specs.Limits.{max_log};
 ghost use Rattle.paxos_box.specs.Room.{Room};

@@ -1,4 +1,6 @@
 // Messages between depots, and what else a step may be given (messages.rs). Entries stand beside a message, in a slice or in the store.
+#![tactic(auto)]
+
 ghost use Rattle.std.specs.Prelude.{◌≡◌};
 ghost use Rattle.messages.specs.Messages.{is_accept_decide, is_accepted, with_decided, with_accepted, decided_as, accepted_as};
 
@@ -6,13 +8,13 @@ use ballot::Ballot;
 use sequence::SequenceNumber;
 
 // A follower asks to be prepared again, and tells its promise.
-#[derive(Drop)]
+#[derive(Clone, Copy)]
 pub struct PrepareReq {
     pub n: Ballot,
 }
 
 // A leader prepares a follower, and tells how far its own log goes.
-#[derive(Drop)]
+#[derive(Clone, Copy)]
 pub struct Prepare {
     pub n: Ballot,
     pub decided_idx: usize,
@@ -21,13 +23,13 @@ pub struct Prepare {
 }
 
 // Whether a Promise brings a log sync, and where it starts; the suffix stands beside it.
-#[derive(Drop)]
+#[derive(Clone, Copy)]
 pub enum PromiseSync {
     Nothing,
     From(usize),
 }
 
-#[derive(Drop)]
+#[derive(Clone, Copy)]
 pub struct Promise {
     pub n: Ballot,
     pub n_accepted: Ballot,
@@ -37,7 +39,7 @@ pub struct Promise {
 }
 
 // The log from `sync_idx` on is to become the suffix, which stands beside it.
-#[derive(Drop)]
+#[derive(Clone, Copy)]
 pub struct AcceptSync {
     pub n: Ballot,
     pub seq_num: SequenceNumber,
@@ -46,32 +48,32 @@ pub struct AcceptSync {
 }
 
 // Entries to be appended, which stand beside it, and the decided index.
-#[derive(Drop)]
+#[derive(Clone, Copy)]
 pub struct AcceptDecide {
     pub n: Ballot,
     pub seq_num: SequenceNumber,
     pub decided_idx: usize,
 }
 
-#[derive(Drop)]
+#[derive(Clone, Copy)]
 pub struct Accepted {
     pub n: Ballot,
     pub accepted_idx: usize,
 }
 
-#[derive(Drop)]
+#[derive(Clone, Copy)]
 pub struct NotAccepted {
     pub n: Ballot,
 }
 
-#[derive(Drop)]
+#[derive(Clone, Copy)]
 pub struct Decide {
     pub n: Ballot,
     pub seq_num: SequenceNumber,
     pub decided_idx: usize,
 }
 
-#[derive(Drop)]
+#[derive(Clone, Copy)]
 pub enum PaxosMsg {
     PrepareReq(PrepareReq),
     Prepare(Prepare),
@@ -85,14 +87,14 @@ pub enum PaxosMsg {
 }
 
 // A message that arrives.
-#[derive(Drop)]
+#[derive(Clone, Copy)]
 pub struct PaxosMessage {
     pub from: u64,
     pub msg: PaxosMsg,
 }
 
 // A message of the outgoing queue: to whom, what, and where in the store its entries lie.
-#[derive(Drop)]
+#[derive(Clone, Copy)]
 pub struct Head {
     pub to: u64,
     pub msg: PaxosMsg,
@@ -101,13 +103,13 @@ pub struct Head {
 }
 
 // The row of heads by value. How many of them wait is the record's.
-#[derive(Drop)]
+#[derive(Clone, Copy)]
 pub struct Row {
     pub heads: [Head; 64],
 }
 
 // What a step is given. The entries of a message or a proposal stand beside it.
-#[derive(Drop)]
+#[derive(Clone, Copy)]
 pub enum Event {
     Message(PaxosMessage),
     Propose,

@@ -1,4 +1,6 @@
 // What ends a step that was decided: drain and restart, and the refusals that only the outcome shows (sequence_paxos/mod.rs).
+#![tactic(auto)]
+
 ghost use Rattle.std.specs.Prelude.{◌≡◌};
 ghost use Rattle.paxos_box.specs.Room.{Room};
 ghost use Rattle.outcome.specs.Outcome.{drained, restarted, queue_refusal, outcome_refusal, settled};
@@ -9,7 +11,7 @@ use paxos_box::{AcceptedMeta, CachedMessage, Phase, Role, SequencePaxos};
 use sequence::SequenceNumber;
 
 // The refusal's number, or 0, and the box: as found where refused, as the step leaves it where taken.
-#[derive(Drop)]
+#[derive(Clone, Copy)]
 pub struct Decision {
     pub no: u32,
     pub node: SequencePaxos,

@@ -1,4 +1,6 @@
 // The outgoing queue: a row of heads by value and a store of entries beside it. What a plan sends is done to it, and leaves it packed (mod.rs).
+#![tactic(auto)]
+
 ghost use Rattle.std.specs.Prelude.{◌≡◌, ◌++◌, map, ◌+◌, ◌-◌, ◌≤◌, ◌<◌, length, take, drop, set};
 ghost use Rattle.base.specs.Lists.{over};
 ghost use Rattle.base.specs.Limits.{max_messages, max_store};

@@ -1,4 +1,6 @@
 // A step whose caller has the row of heads by value: the row is lent to `depot::step` and taken back. Its promise is that of `depot_row::step_row`.
+#![tactic(auto)]
+
 ghost use Rattle.std.specs.Prelude.{◌≡◌};
 ghost use Rattle.broken.specs.Lent.{lent};
 ghost use Rattle.outgoing.specs.Packing.{row_of};

@@ -1,4 +1,6 @@
 // The lines of a report, put into a lent buffer: `bad line N`, or the pumps with charged days and the total.
+#![tactic(auto)]
+
 ghost use Rattle.std.specs.Prelude.{◌≡◌, ◌+◌, ◌*◌, ◌≤◌, length};
 ghost use Rattle.base.specs.Limits.{pumps};
 ghost use Rattle.decimal.specs.Text.{Put};

@@ -1,5 +1,7 @@
 // A box of Sequence Paxos as it decides: what it holds, in numbers, and the plan of what the step sends and writes (sequence_paxos/mod.rs).
 // Lists are lent: here stand their lengths. A step decides first and writes after, so what it may not do is known before anything is written.
+#![tactic(auto)]
+
 ghost use Rattle.std.specs.Prelude.{◌≡◌, ◌+◌, ◌*◌, ◌≤◌, ◌<◌};
 ghost use Rattle.paxos_box.specs.Room.{Room};
 ghost use Rattle.paxos_box.specs.Box.{is_new, planned, writing, push_of, next_place, unfit, at_top, with_state, with_leader, with_storage, with_writes, set_promised, set_decided, set_length, set_seq, set_cached, set_meta, set_buffered, log_op, cached_op, best_op, buffer_op, kept_buffered, is_recover, is_accept_phase, is_leader, standing_of, leads_in, follows_in};
@@ -10,13 +12,13 @@ use messages::PaxosMsg;
 use quorum::Configuration;
 use sequence::SequenceNumber;
 
-#[derive(Drop)]
+#[derive(Clone, Copy)]
 pub enum Role {
     Follower,
     Leader,
 }
 
-#[derive(Drop)]
+#[derive(Clone, Copy)]
 pub enum Phase {
     Prepare,
     Accept,
@@ -24,14 +26,14 @@ pub enum Phase {
     None,
 }
 
-#[derive(Drop)]
+#[derive(Clone, Copy)]
 pub struct State {
     pub role: Role,
     pub phase: Phase,
 }
 
 // What outlives a restart, the log by its length, `accepted_idx`.
-#[derive(Drop)]
+#[derive(Clone, Copy)]
 pub struct InternalStorage {
     pub promise: Ballot,
     pub accepted_round: Ballot,
@@ -40,14 +42,14 @@ pub struct InternalStorage {
 }
 
 // The queue: how many messages wait, and how many entries they carry.
-#[derive(Drop)]
+#[derive(Clone, Copy)]
 pub struct Outgoing {
     pub len: usize,
     pub entries: usize,
 }
 
 // The last Promise sent, for a resend; its sync's entries lie in a lent buffer.
-#[derive(Drop)]
+#[derive(Clone, Copy)]
 pub struct CachedPromise {
     pub n: Ballot,
     pub n_accepted: Ballot,
@@ -56,38 +58,38 @@ pub struct CachedPromise {
     pub sync: HeldSync,
 }
 
-#[derive(Drop)]
+#[derive(Clone, Copy)]
 pub enum CachedMessage {
     Nothing,
     Held(CachedPromise),
 }
 
-#[derive(Drop)]
+#[derive(Clone, Copy)]
 pub struct Cached {
     pub message: CachedMessage,
 }
 
 // Where an Accepted that still waits stands in the queue, and of which ballot it is.
-#[derive(Drop)]
+#[derive(Clone, Copy)]
 pub struct AcceptedAt {
     pub n: Ballot,
     pub at: usize,
 }
 
-#[derive(Drop)]
+#[derive(Clone, Copy)]
 pub enum AcceptedMeta {
     Nothing,
     At(AcceptedAt),
 }
 
-#[derive(Drop)]
+#[derive(Clone, Copy)]
 pub struct LatestAccepted {
     pub meta: AcceptedMeta,
 }
 
 // Where a planned message's entries come from: the log as the step leaves it, from a place on; the entries given with the event;
 // the buffered proposals as found; the cached promise's buffer as the step leaves it.
-#[derive(Drop)]
+#[derive(Clone, Copy)]
 pub enum Source {
     Nothing,
     Log(usize),
@@ -97,20 +99,20 @@ pub enum Source {
 }
 
 // The AcceptDecide that stands at a position of the queue gets this decided index, and the entries join it.
-#[derive(Drop)]
+#[derive(Clone, Copy)]
 pub struct Join {
     pub at: usize,
     pub decided_idx: usize,
 }
 
 // The Accepted that stands at a position of the queue gets this index.
-#[derive(Drop)]
+#[derive(Clone, Copy)]
 pub struct Raise {
     pub at: usize,
     pub accepted_idx: usize,
 }
 
-#[derive(Drop)]
+#[derive(Clone, Copy)]
 pub enum Sent {
     New(PaxosMsg),
     Join(Join),
@@ -118,7 +120,7 @@ pub enum Sent {
 }
 
 // One thing that the step does to the queue, with `count` entries from their source.
-#[derive(Drop)]
+#[derive(Clone, Copy)]
 pub struct Send {
     pub to: u64,
     pub what: Sent,
@@ -127,7 +129,7 @@ pub struct Send {
 }
 
 // What the step does to the queue, in order; how many new messages, and how many entries they and the joins bring.
-#[derive(Drop)]
+#[derive(Clone, Copy)]
 pub struct Sends {
     pub items: [Send; 8],
     pub count: usize,
@@ -136,7 +138,7 @@ pub struct Sends {
 }
 
 // To the log: nothing; the given entries appended; the log from a place on rewritten by the given entries, or by the held sync's.
-#[derive(Drop)]
+#[derive(Clone, Copy)]
 pub enum LogOp {
     Keep,
     Append(usize),
@@ -145,28 +147,28 @@ pub enum LogOp {
 }
 
 // To the cached promise's buffer: nothing, or the log from a place on.
-#[derive(Drop)]
+#[derive(Clone, Copy)]
 pub enum CachedOp {
     Keep,
     FromLog(LogSync),
 }
 
 // To the held sync's buffer: nothing, or the given entries.
-#[derive(Drop)]
+#[derive(Clone, Copy)]
 pub enum BestOp {
     Keep,
     Given(usize),
 }
 
 // To the buffered proposals: nothing, or the given entries after those that wait.
-#[derive(Drop)]
+#[derive(Clone, Copy)]
 pub enum BufferOp {
     Keep,
     Add(usize),
 }
 
 // What the step writes. `buffered` proposals join the log's end after `log`; `dropped` are dropped.
-#[derive(Drop)]
+#[derive(Clone, Copy)]
 pub struct Writes {
     pub log: LogOp,
     pub buffered: usize,
@@ -178,7 +180,7 @@ pub struct Writes {
 
 // What deciding needs of the lists: whether an AcceptDecide (an Accepted) stands where one is remembered, and the first place of the
 // log that the held sync, or the one brought, would change.
-#[derive(Drop)]
+#[derive(Clone, Copy)]
 pub struct Sight {
     pub accdec: [bool; 7],
     pub accepted: bool,
@@ -187,7 +189,7 @@ pub struct Sight {
 }
 
 // What a step will do, and whether it must be refused: with 4 (`unfit`) or 7 (`top`).
-#[derive(Drop)]
+#[derive(Clone, Copy)]
 pub struct Plan {
     pub sends: Sends,
     pub writes: Writes,
@@ -196,7 +198,7 @@ pub struct Plan {
     pub sight: Sight,
 }
 
-#[derive(Drop)]
+#[derive(Clone, Copy)]
 pub struct SequencePaxos {
     pub config: Configuration,
     pub internal_storage: InternalStorage,
@@ -211,7 +213,7 @@ pub struct SequencePaxos {
 }
 
 // The pairs of role and phase that a rule names.
-#[derive(Drop)]
+#[derive(Clone, Copy)]
 pub enum Standing {
     LeaderPrepare,
     LeaderAccept,

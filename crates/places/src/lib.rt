@@ -1,4 +1,6 @@
 // Tests over the depots' places of the leader's record: the remembered position, whose the kept promise is, its accepted round.
+#![tactic(auto)]
+
 ghost use Rattle.std.specs.Prelude.{◌≡◌, ◌≤◌};
 ghost use Rattle.base.specs.Limits.{max_depots};
 ghost use Rattle.places.specs.Places.{any_place, latest_past, promise_else, promise_foreign, place_test};
@@ -8,7 +10,7 @@ use quorum::Configuration;
 
 // What is asked of each place: whether its remembered position is at or past the queue's end; whether it keeps a promise of another pid;
 // whether that names a nonzero ballot whose pid is no depot.
-#[derive(Drop)]
+#[derive(Clone, Copy)]
 pub enum PlaceTest {
     Past(usize),
     Misplaced,

@@ -1,31 +1,33 @@
 // Quorums, the configuration of the depots, and when a configuration stands (util.rs).
+#![tactic(auto)]
+
 ghost use Rattle.std.specs.Prelude.{◌≡◌};
 ghost use Rattle.quorum.specs.Quorum.{majority_of, with_of, read_size, write_size, reaches_read, reaches_write, stands_of, is_depot, sizes_stand};
 
 use base::{MAX_DEPOTS, MIN_DEPOTS};
 
-#[derive(Drop)]
+#[derive(Clone, Copy)]
 pub struct FlexibleQuorum {
     pub read_quorum_size: u64,
     pub write_quorum_size: u64,
 }
 
 // The size of a majority, or a read and a write size.
-#[derive(Drop)]
+#[derive(Clone, Copy)]
 pub enum Quorum {
     Majority(u64),
     Flexible(FlexibleQuorum),
 }
 
 // A flexible quorum where one is wanted.
-#[derive(Drop)]
+#[derive(Clone, Copy)]
 pub enum FlexibleConfig {
     Nothing,
     Given(FlexibleQuorum),
 }
 
 // What every depot of a cluster is told: how many depots there are, its own pid, and the quorums.
-#[derive(Drop)]
+#[derive(Clone, Copy)]
 pub struct Configuration {
     pub depots: u64,
     pub pid: u64,

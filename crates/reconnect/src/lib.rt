@@ -1,4 +1,6 @@
 // `reconnected`: a link to a depot came back, or something from it was missed (mod.rs). Each function takes the box and hands it back.
+#![tactic(auto)]
+
 ghost use Rattle.std.specs.Prelude.{◌≡◌};
 ghost use Rattle.paxos_box.specs.Room.{Room};
 ghost use Rattle.reconnect.specs.Reconnect.{left_leader, reconnected_of, recovering};

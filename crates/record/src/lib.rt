@@ -1,4 +1,6 @@
 // The record that a depot's box keeps between steps, and the deciding box made of it and made into it again.
+#![tactic(auto)]
+
 ghost use Rattle.std.specs.Prelude.{◌≡◌};
 ghost use Rattle.record.specs.Record.{fresh_record, fresh_plan, load_of, store_of};
 
@@ -14,14 +16,14 @@ use quorum::Configuration;
 use sequence::SequenceNumber;
 
 // The buffered proposals: the first `len` of them wait.
-#[derive(Drop)]
+#[derive(Clone, Copy)]
 pub struct Buffered {
     pub entries: [u64; 16],
     pub len: usize,
 }
 
 // `outgoing` is how many messages of the row wait. The log, the two sync buffers, the store and the book are lent beside it.
-#[derive(Drop)]
+#[derive(Clone, Copy)]
 pub struct Record {
     pub internal_storage: InternalStorage,
     pub state: State,

@@ -1,4 +1,6 @@
 // Refusals 1, 2, 3 and the 4 that is given in every state, tested in this order (document 01, "When a box says no").
+#![tactic(auto)]
+
 ghost use Rattle.std.specs.Prelude.{◌≡◌};
 ghost use Rattle.broken.specs.Lent.{lent};
 ghost use Rattle.refusals.specs.Refusals.{lengths_off, wrong_call, refusal_of};

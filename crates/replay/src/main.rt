@@ -1,4 +1,6 @@
 // Replays the list on standard input (README.md): each step is given to the box, and its answer and the checksum of its outcome are compared with the list's.
+#![tactic(auto)]
+
 ghost use Rattle.std.specs.Prelude.{◌≡◌, length};
 
 use libc::{STDIN_FILENO, STDOUT_FILENO};
@@ -35,7 +37,7 @@ const HALF: u64 = 4_294_967_296;
 const MOST: u64 = 1_844_674_407_370_955_161;
 
 // What was read of the list so far: a number, the command it belongs to, and how many entries wait for the next step.
-#[derive(Drop)]
+#[derive(Clone, Copy)]
 struct Machine {
     command: u64,
     args: [u64; 4],

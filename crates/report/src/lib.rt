@@ -1,4 +1,6 @@
 // The report of a hire book's history (document 01, end of "The hire book"): entries read as decimal lines, in parts of any size, and the pumps with charged days written.
+#![tactic(auto)]
+
 ghost use Rattle.std.specs.Prelude.{◌≡◌, ◌≤◌, length};
 ghost use Rattle.decimal.specs.Text.{Put};
 ghost use Rattle.hire_book.specs.Book.{Sound};
@@ -11,7 +13,7 @@ const UNFIT: u64 = base::MAX_ENTRY + 1;
 
 // Where a reader is: the number of the line that it reads, counted from 1; whether the line has a byte; what its digits say, above the entry limit where
 // the line is unfit; and whether the line is bad, after which all is skipped.
-#[derive(Drop)]
+#[derive(Clone, Copy)]
 pub struct Reader {
     pub line: u64,
     pub any: bool,
@@ -19,13 +21,13 @@ pub struct Reader {
     pub bad: bool,
 }
 
-#[derive(Drop)]
+#[derive(Clone, Copy)]
 pub struct Fed {
     pub answer: u32,
     pub reader: Reader,
 }
 
-#[derive(Drop)]
+#[derive(Clone, Copy)]
 pub struct Finished {
     pub answer: u32,
     pub count: usize,

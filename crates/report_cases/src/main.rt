@@ -1,4 +1,6 @@
 // Reports of inputs that are easily got wrong, each fed whole, in parts of 3 bytes and byte by byte.
+#![tactic(auto)]
+
 ghost use Rattle.std.specs.Prelude.{◌≤◌, ◌<◌};
 
 use libc::STDOUT_FILENO;

@@ -1,4 +1,6 @@
 // Three depots at work, told in words: a step, a drain with its deliveries and losses, drains until all queues are empty, and a table of the depots.
+#![tactic(auto)]
+
 ghost use Rattle.std.specs.Prelude.{◌≡◌};
 ghost use Rattle.hire_book.specs.Step.{told, total_step};
 ghost use Rattle.cluster.specs.Cluster.{step_at};

@@ -1,1 +1,2 @@
 // No code: in every run the depots agree, and each decided entry was proposed.
+#![tactic(auto)]

@@ -1,4 +1,6 @@
 // What a box sends to one depot, and to each of several in rising order (the sends of leader.rs and follower.rs).
+#![tactic(auto)]
+
 ghost use Rattle.std.specs.Prelude.{◌≡◌, ◌+◌, ◌≤◌, ◌<◌};
 ghost use Rattle.base.specs.Limits.{max_depots};
 ghost use Rattle.leader_state.specs.State.{own_place};
@@ -12,7 +14,7 @@ use paxos_box::{Join, Send, Sent, SequencePaxos, Source};
 use quorum::Configuration;
 
 // What goes to each of several depots: `count` entries of the log from `from` on in an AcceptDecide, or none.
-#[derive(Drop)]
+#[derive(Clone, Copy)]
 pub enum Each {
     Prepare,
     AcceptSync,

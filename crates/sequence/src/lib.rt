@@ -1,15 +1,17 @@
 // Sequence numbers of the accept phase, and what a message's number says beside one's own (util.rs).
+#![tactic(auto)]
+
 ghost use Rattle.std.specs.Prelude.{◌≡◌};
 ghost use Rattle.sequence.specs.Sequence.{status_of, first};
 
 // A session and a counter within it; compared in that order.
-#[derive(Drop)]
+#[derive(Clone, Copy)]
 pub struct SequenceNumber {
     pub session: u64,
     pub counter: u64,
 }
 
-#[derive(Drop)]
+#[derive(Clone, Copy)]
 pub enum MessageStatus {
     Expected,
     DroppedPreceding,

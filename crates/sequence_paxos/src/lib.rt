@@ -1,4 +1,6 @@
 // The dispatch of a step to its handlers (sequence_paxos/mod.rs); `outcome` settles what they leave.
+#![tactic(auto)]
+
 ghost use Rattle.std.specs.Prelude.{◌≡◌, ◌+◌, ◌≤◌, ◌<◌};
 ghost use Rattle.leader_state.specs.State.{own_place};
 ghost use Rattle.paxos_box.specs.Room.{Room};

@@ -1,5 +1,7 @@
 // What deciding needs of the lists, in numbers: what stands at a remembered position of the queue, the first place of the log that a sync
 // would change, and how many entries the queue carries.
+#![tactic(auto)]
+
 ghost use Rattle.std.specs.Prelude.{◌≡◌, ◌≤◌, get_or};
 ghost use Rattle.base.specs.Limits.{max_depots, max_messages, max_store};
 ghost use Rattle.sight.specs.Sight.{part_of, changes_at, first_change, held_change, sync_in, brought, brought_change, accdec_at, accepted_at, accdec_on, accepted_on, accdec_marks, accepted_mark, queue_entries, sight_of};

@@ -1,4 +1,6 @@
 // The stale case (document 01, "Errors that look reasonable"), step by step: where the old rule leads, and where the new one does.
+#![tactic(auto)]
+
 use ballot::Ballot;
 use cluster::Cluster;
 use leader_state::Latest;

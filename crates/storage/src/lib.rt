@@ -1,4 +1,6 @@
 // What a plan writes to the lent lists: the log, the two sync buffers and the buffered proposals (storage/). Nothing here refuses: deciding has shown that it fits.
+#![tactic(auto)]
+
 ghost use Rattle.std.specs.Prelude.{◌≡◌, ◌+◌, ◌≤◌, length, take, drop};
 ghost use Rattle.base.specs.Limits.{max_log, max_buffered};
 ghost use Rattle.base.specs.Lists.{over};

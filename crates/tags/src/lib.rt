@@ -1,4 +1,6 @@
 // The variants that a record holds as a tag and what it holds, and back (docs/LAYOUT.md).
+#![tactic(auto)]
+
 ghost use Rattle.std.specs.Prelude.{◌≡◌};
 ghost use Rattle.tags.specs.Tags.{promise_tag, promise_meta, latest_tag, latest_at, held_tag, held_sync, role_tag, phase_tag, accepted_tag, accepted_at, cached_tag, cached_promise};
 ghost use Rattle.tags.specs.Variants.{promise_of, latest_of, held_of, role_of, phase_of, accepted_of, cached_of};

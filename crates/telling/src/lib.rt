@@ -1,4 +1,6 @@
 // What depots send and answer, written to standard output in words.
+#![tactic(auto)]
+
 use ballot::Ballot;
 use libc::STDOUT_FILENO;
 use messages::{

@@ -1,4 +1,6 @@
 // Refusals 3 and 4: whom an event names, and what makes it unfit in every state (document 01, "When a box says no").
+#![tactic(auto)]
+
 ghost use Rattle.std.specs.Prelude.{◌≡◌};
 ghost use Rattle.unfit.specs.Unfit.{no_depot, wrong_sender, stranger_of, is_from, carries, entry_above, past, either_past, start_past, index_above, count_off, forward_off, foreign, either_foreign, ballot_foreign, ballot_default, not_by, sender_off, decided_above, message_unfit, proposal_unfit, unfit_of};
 
