@@ -1,6 +1,6 @@
 -- A queue laid down packed: it is read back as it was, it lies packed, a longer one laid over it hides it, and a packed one lies as it would be laid.
 use Prim.Native.Nat.{ℕ, zero, suc, ◌+◌, ◌-◌, ◌≤◌, ◌<◌}
-use mathlib.Core.Path.{◌≡◌, refl, sym, ap, ◌∙◌}
+use mathlib.Core.Path.{◌≡◌, refl, sym, ap, subst, ◌∙◌}
 use mathlib.Core.List.{List, [], ◌∷◌, ◌++◌, map, append_assoc, append-nil}
 use native.Mathlib.Omega.{arith}
 use lib.ListN.{length, take, drop, length-append, length-take, length-drop, length-map, take-append-drop}
@@ -75,8 +75,10 @@ read_back p r (m ∷ q) =
     let one : p ++ ((m.entries ++ entries_in q) ++ r) ≡ p ++ (m.entries ++ (entries_in q ++ r)) = rw append_assoc in
     let two : p ++ (m.entries ++ (entries_in q ++ r)) ≡ (p ++ m.entries) ++ (entries_in q ++ r) = rw append_assoc in
     let n : length p + length m.entries ≡ length (p ++ m.entries) = sym (length-append p m.entries) in
-    let again : map (msg_of (p ++ (m.entries ++ (entries_in q ++ r)))) (heads_from (length p + length m.entries) q) ≡ q = rw (two, n) (read_back (p ++ m.entries) r q) in
-    rw (one, again, entries-back p m.entries (entries_in q ++ r))
+    let again : map (msg_of (p ++ ((m.entries ++ entries_in q) ++ r))) (heads_from (length p + length m.entries) q) ≡ q =
+    subst (λ (s : List ℕ). map (msg_of s) (heads_from (length p + length m.entries) q) ≡ q) (sym (one ∙ two)) (rw n (read_back (p ++ m.entries) r q)) in
+    let first : msg_of (p ++ ((m.entries ++ entries_in q) ++ r)) (head_of (length p) m) ≡ m = rw (one, entries-back p m.entries (entries_in q ++ r)) in
+    ap (λ (x : Msg). x ∷ map (msg_of (p ++ ((m.entries ++ entries_in q) ++ r))) (heads_from (length p + length m.entries) q)) first ∙ ap (λ (y : List Msg). m ∷ y) again
 
 -- the queue is read back as it was laid down
 pub laid-queue : (q : List Msg) (w : Lent) → queue_of (length q) (laid q w) ≡ q
