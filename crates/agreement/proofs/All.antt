@@ -16,7 +16,7 @@ module _ {X : Type 0} {P : X → Type 0} where
   pub all_take : {l : List X} (k : ℕ) → All P l → All P (take k l)
   all_take zero p = nil
   all_take (suc k) nil = nil
-  all_take (suc k) (cons p ps) = cons p (all_take k ps)
+  all_take (suc k) (cons {l = l} p ps) = cons p (all_take {l = l} k ps)
 
   pub all-sub : {l r : List X} → Sub l r → All P r → All P l
   all-sub end nil = nil

@@ -81,13 +81,13 @@ module _ {E : Type 0} where
   -- any items may be lost
   pub stream-sub : {log : List E} {l r : List (Item E)} {a b : Spot} → Sub l r → Stream log r a b → Stream log l a b
   stream-sub end done = done
-  stream-sub (keep t) (skip p) = skip (stream-sub t p)
-  stream-sub (keep t) (anew s c u p) = anew s c u (stream-sub t p)
-  stream-sub (keep t) (on s c u p) = on s c u (stream-sub t p)
-  stream-sub (leave t) (skip p) = stream-sub t p
-  stream-sub (leave t) (anew {a = a} s c u p) = gap (later-anew a _ _ s u) (stream-sub t p)
-  stream-sub (leave t) (on {a = a} s c u p) = gap (later-on a _ s c) (stream-sub t p)
-  stream-sub t (gap w p) = gap w (stream-sub t p)
+  stream-sub (keep {l = l} t) (skip p) = skip (stream-sub {l = l} t p)
+  stream-sub (keep {l = l} t) (anew s c u p) = anew s c u (stream-sub {l = l} t p)
+  stream-sub (keep {l = l} t) (on s c u p) = on s c u (stream-sub {l = l} t p)
+  stream-sub {l = l} (leave t) (skip p) = stream-sub {l = l} t p
+  stream-sub {l = l} (leave t) (anew {a = a} s c u p) = gap (later-anew a _ _ s u) (stream-sub {l = l} t p)
+  stream-sub {l = l} (leave t) (on {a = a} s c u p) = gap (later-on a _ s c) (stream-sub {l = l} t p)
+  stream-sub {l = l} t (gap w p) = gap w (stream-sub {l = l} t p)
 
   -- the first item of a stream, and what follows it
   record Head (log : List E) (m : Item E) (l : List (Item E)) (a b : Spot) : Type 0 where
@@ -138,6 +138,6 @@ module _ {E : Type 0} where
       stream-append h.one (stream-extend pre post s c es p q u h.rest)
 
   -- ---- messages that are nothing to the stream
-  pub plain_map : {M : Type 0} {l : List M} (view : M → Item E) → All (λ m. view m ≡ plain) l → Plain (map view l)
+  pub plain_map : {M : Type 0} (view : M → Item E) {l : List M} → All (λ m. view m ≡ plain) l → Plain (map view l)
   plain_map view nil = none
   plain_map view (cons p ps) = rw p (more (plain_map view ps))
