@@ -30,6 +30,7 @@ impl Ballot {
         }
     }
 
+    #[tactic(auto, unfolding(crate::specs::Ballot::compare_of))]
     pub fn compare(self, other: Ballot) -> Order
         ensures { result ≡ compare_of self other }
     {
@@ -54,6 +55,7 @@ impl Ballot {
         Order::Equal
     }
 
+    #[tactic(auto, unfolding(crate::specs::Ballot::same))]
     pub fn same(self, other: Ballot) -> bool
         ensures { result ≡ same self other }
     {
@@ -64,6 +66,7 @@ impl Ballot {
         }
     }
 
+    #[tactic(auto, unfolding(crate::specs::Ballot::above))]
     pub fn above(self, other: Ballot) -> bool
         ensures { result ≡ above self other }
     {
@@ -74,6 +77,7 @@ impl Ballot {
         }
     }
 
+    #[tactic(auto, unfolding(crate::specs::Ballot::is_default))]
     pub fn is_default(self) -> bool
         ensures { result ≡ is_default self }
     {

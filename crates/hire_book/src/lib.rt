@@ -34,6 +34,7 @@ pub enum Answer {
     Days(u64),
 }
 
+#[tactic(auto, unfolding(crate::specs::Book::broken_at))]
 fn pump_broken(book: &[u64], pump: usize) -> bool
     requires book_len { length book.now ≡ book_length }
     requires pump_lt_pumps { pump < pumps }
@@ -59,6 +60,7 @@ fn pump_broken(book: &[u64], pump: usize) -> bool
 }
 
 // Whether a book of the right length is broken (refusal 2).
+#[tactic(auto, unfolding(crate::specs::Below::any_below, crate::specs::Book::broken_of))]
 pub fn any_broken(book: &[u64]) -> bool
     requires { length book.now ≡ book_length }
     ensures { result ≡ broken_of book.now }
@@ -74,6 +76,7 @@ pub fn any_broken(book: &[u64]) -> bool
 }
 
 // The same of any slice: one of the wrong length is broken.
+#[tactic(auto, unfolding(crate::specs::Step::is_broken_of))]
 pub fn is_broken(book: &[u64]) -> bool
     ensures { result ≡ is_broken_of book.now }
 {
@@ -84,6 +87,7 @@ pub fn is_broken(book: &[u64]) -> bool
 }
 
 // Whether some entry is above its limit.
+#[tactic(auto, unfolding(crate::specs::Below::any_below, crate::specs::Book::any_above))]
 pub fn any_above(entries: &[u64]) -> bool
     ensures { result ≡ any_above entries.now }
 {
@@ -98,6 +102,7 @@ pub fn any_above(entries: &[u64]) -> bool
 }
 
 // An out counts if the pump is in the yard and the day is not below its last counted back.
+#[tactic(auto, unfolding(crate::specs::Book::entered))]
 fn take_out(book: &mut [u64], pump: usize, day: u64)
     requires sound { Sound book.old }
     requires pump_lt_pumps { (pump < pumps) × (day ≤ max_day) }
@@ -114,6 +119,7 @@ fn take_out(book: &mut [u64], pump: usize, day: u64)
 }
 
 // A back counts if the pump is away and the day is not below its out day. It charges the days from out up to, not including, back.
+#[tactic(auto, unfolding(crate::specs::Book::entered))]
 fn bring_back(book: &mut [u64], pump: usize, day: u64)
     requires sound { Sound book.old }
     requires pump_lt_pumps { (pump < pumps) × (day ≤ max_day) }
@@ -151,6 +157,7 @@ pub fn apply_fit(book: &mut [u64], entry: u64)
 }
 
 // Entries in order, with no test of the book.
+#[tactic(auto, unfolding(crate::specs::Book::apply_all))]
 pub fn apply_run(book: &mut [u64], entries: &[u64])
     requires sound { Sound book.old }
     requires entries_value { any_above entries.now ≡ false }
@@ -165,6 +172,7 @@ pub fn apply_run(book: &mut [u64], entries: &[u64])
 }
 
 // One entry applied to a book; refused with 1, 2 or 4, the book stays.
+#[tactic(auto, unfolding(crate::specs::Step::apply_step))]
 pub fn apply(book: &mut [u64], entry: u64) -> u32
     ensures { seen result book.new ≡ apply_step book.old entry }
 {
@@ -182,6 +190,7 @@ pub fn apply(book: &mut [u64], entry: u64) -> u32
 }
 
 // Entries in order applied to a book; refused with 1, 2 or 4, the book stays.
+#[tactic(auto, unfolding(crate::specs::Step::apply_all_step))]
 pub fn apply_all(book: &mut [u64], entries: &[u64]) -> u32
     ensures { seen result book.new ≡ apply_all_step book.old entries.now }
 {
@@ -209,6 +218,7 @@ fn clear(book: &mut [u64])
 }
 
 // A book in which nothing was entered; refused with 1, the slice stays.
+#[tactic(auto, unfolding(crate::specs::Step::fresh_step, crate::specs::Book::fresh_book))]
 pub fn fresh(book: &mut [u64]) -> u32
     ensures { seen result book.new ≡ fresh_step book.old }
 {
@@ -220,6 +230,7 @@ pub fn fresh(book: &mut [u64]) -> u32
 }
 
 // The stored days of a pump; refused with 1, 2, or 4 for a pump that is none.
+#[tactic(auto, unfolding(crate::specs::Step::charged_step))]
 pub fn charged_days(book: &[u64], pump: u64) -> Answer
     ensures { told result ≡ charged_step book.now pump }
 {
@@ -238,6 +249,7 @@ pub fn charged_days(book: &[u64], pump: u64) -> Answer
 }
 
 // The stored days of all pumps, with no test of the book.
+#[tactic(auto, unfolding(crate::specs::Below::sum_below))]
 pub fn sum_days(book: &[u64]) -> u64
     requires { Sound book.now }
     ensures { result ≡ stored_days book.now }
@@ -253,6 +265,7 @@ pub fn sum_days(book: &[u64]) -> u64
 }
 
 // The stored days of all pumps; refused with 1 or 2.
+#[tactic(auto, unfolding(crate::specs::Step::total_step))]
 pub fn total_days(book: &[u64]) -> Answer
     ensures { told result ≡ total_step book.now }
 {

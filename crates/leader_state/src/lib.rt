@@ -124,6 +124,7 @@ impl PromiseState {
 
 impl PromiseMetaData {
     // A higher accepted round, or an equal one and a higher accepted index. A tie beats nothing, so the first stays.
+    #[tactic(auto, unfolding(crate::specs::Promises::beats))]
     pub fn beats(self, best: PromiseMetaData) -> bool
         ensures { result ≡ beats self best }
     {
@@ -137,6 +138,7 @@ impl PromiseMetaData {
     }
 
     // Where the sync of a depot that reported this starts, for the leader's ballot n and its best promise (send_accsync).
+    #[tactic(auto, unfolding(crate::specs::Promises::sync_start))]
     pub fn sync_start(self, n: Ballot, best: PromiseMetaData) -> usize
         ensures { result ≡ sync_start n best self }
     {
@@ -209,6 +211,7 @@ impl Depot {
 
 impl LeaderState {
     // A new leader's record: each depot's place as fresh, no best promise. Places past the depots stay.
+    #[tactic(auto, unfolding(base::specs::Lists::on_first, crate::specs::State::with_of))]
     pub fn with(mut self, n_leader: Ballot, c: Configuration) -> LeaderState
         requires { c.depots ≤ max_depots }
         ensures { result ≡ with_of n_leader c.depots self }
@@ -228,6 +231,7 @@ impl LeaderState {
     }
 
     // A drain forgets every remembered AcceptDecide.
+    #[tactic(auto, unfolding(base::specs::Lists::on_first, crate::specs::State::forget_all))]
     pub fn reset_latest_accept_meta(mut self, c: Configuration) -> LeaderState
         requires { c.depots ≤ max_depots }
         ensures { result ≡ forget_all c.depots self }
@@ -422,6 +426,7 @@ impl LeaderState {
         self
     }
 
+    #[tactic(auto, unfolding(base::specs::Count::count, crate::specs::Promises::promised_count))]
     fn count_promised(self, c: Configuration) -> u64
         requires { c.depots ≤ max_depots }
         ensures { result ≡ promised_count c.depots self }
@@ -439,6 +444,7 @@ impl LeaderState {
     }
 
     // The highest decided index of the promises that stand, 0 where none does.
+    #[tactic(auto, unfolding(base::specs::Count::most, crate::specs::Promises::max_decided))]
     pub fn get_max_decided_idx(self, c: Configuration) -> usize
         requires { c.depots ≤ max_depots }
         ensures { result ≡ max_decided c.depots self }
@@ -455,6 +461,7 @@ impl LeaderState {
         best
     }
 
+    #[tactic(auto, unfolding(base::specs::Count::count, crate::specs::Places::accepted_at))]
     fn count_accepted(self, idx: usize, c: Configuration) -> u64
         requires { c.depots ≤ max_depots }
         ensures { result ≡ accepted_at idx c.depots self }
@@ -481,6 +488,7 @@ impl LeaderState {
     }
 
     // A depot that promised this leader and is not the leader itself.
+    #[tactic(auto, unfolding(crate::specs::Places::is_follower))]
     fn is_promised_follower(self, pid: u64) -> bool
         requires { own_place pid }
         ensures { result ≡ is_follower pid self }
@@ -494,6 +502,7 @@ impl LeaderState {
     }
 
     // A mark for each place: the depot there is a promised follower.
+    #[tactic(auto, unfolding(base::specs::Lists::tabulate, crate::specs::Places::promised_followers))]
     pub fn get_promised_followers(self, c: Configuration) -> [bool; 7]
         requires { c.depots ≤ max_depots }
         ensures { result ≡ promised_followers c.depots self }
@@ -510,6 +519,7 @@ impl LeaderState {
     }
 
     // Another depot that has not promised, this leader or a higher one.
+    #[tactic(auto, unfolding(crate::specs::Places::is_peer))]
     fn is_preparable_peer(self, pid: u64, own: u64) -> bool
         requires { own_place pid }
         ensures { result ≡ is_peer own pid self }
@@ -522,6 +532,7 @@ impl LeaderState {
     }
 
     // A mark for each place: the depot there is another one and has not promised, neither this leader nor a higher one.
+    #[tactic(auto, unfolding(base::specs::Lists::tabulate, crate::specs::Places::preparable_peers))]
     pub fn get_preparable_peers(self, c: Configuration) -> [bool; 7]
         requires { c.depots ≤ max_depots }
         ensures { result ≡ preparable_peers c.pid c.depots self }

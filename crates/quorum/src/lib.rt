@@ -62,12 +62,14 @@ impl Quorum {
         }
     }
 
+    #[tactic(auto, unfolding(crate::specs::Quorum::reaches_read))]
     pub fn is_prepare_quorum(self, num_nodes: u64) -> bool
         ensures { result ≡ reaches_read self num_nodes }
     {
         self.read_size() <= num_nodes
     }
 
+    #[tactic(auto, unfolding(crate::specs::Quorum::reaches_write))]
     pub fn is_accept_quorum(self, num_nodes: u64) -> bool
         ensures { result ≡ reaches_write self num_nodes }
     {
@@ -75,6 +77,7 @@ impl Quorum {
     }
 }
 
+#[tactic(auto, unfolding(crate::specs::Quorum::is_depot))]
 fn in_depots(size: u64, depots: u64) -> bool
     ensures { result ≡ is_depot size depots }
 {
@@ -85,6 +88,7 @@ fn in_depots(size: u64, depots: u64) -> bool
 }
 
 // Both sizes in range, and together above the depots.
+#[tactic(auto, unfolding(crate::specs::Quorum::sizes_stand))]
 fn sizes_stand(read: u64, write: u64, depots: u64) -> bool
     ensures { result ≡ sizes_stand read write depots }
 {
@@ -105,6 +109,7 @@ fn sizes_stand(read: u64, write: u64, depots: u64) -> bool
 
 impl Configuration {
     // Refusal 1's part on numbers: true where it is not given.
+    #[tactic(auto, unfolding(crate::specs::Quorum::stands_of))]
     pub fn stands(self) -> bool
         ensures { result ≡ stands_of self }
     {

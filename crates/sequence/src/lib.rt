@@ -29,6 +29,7 @@ impl SequenceNumber {
     }
 
     // Total: where the own counter is at its top, no counter is one higher.
+    #[tactic(auto, unfolding(crate::specs::Sequence::status_of))]
     pub fn check_msg_status(self, msg_seq_num: SequenceNumber) -> MessageStatus
         ensures { result ≡ status_of self msg_seq_num }
     {

@@ -1,0 +1,18 @@
+-- `hire_book::sum_days` meets its contract: the sum so far, which is at most 65,535 a pump.
+use Prim.Native.Nat.{◌≤◌, ◌-◌, ◌*◌}
+use mathlib.Core.Path.{◌≡◌, refl}
+use native.Mathlib.Numerals.{add-one}
+use native.Mathlib.Omega.{arith}
+use borrow.Author.Rules.{rules}
+use Rattle.base.specs.Limits.{pumps, max_day}
+use Rattle.hire_book.specs.Below.{sum_below}
+use Rattle.hire_book.specs.Book.{charged}
+use Rattle.hire_book.proofs.Sound.{sound-pump}
+use Rattle.hire_book.proofs.sum_days.Goals as goal
+
+pub overflow_add-sum-in-loop-pump : goal.overflow_add-sum-in-loop-pump
+overflow_add-sum-in-loop-pump c = let k = sound-pump c.requires c.loop-pump.pump (search rules) in search rules
+
+pub loop-pump-preserved : goal.loop-pump-preserved
+unfolding sum_below
+loop-pump-preserved c = let k = sound-pump c.requires c.loop-pump.pump (search rules) in (search rules, rw (add-one c.loop-pump.pump, c.loop-pump.invariant.1), search rules)

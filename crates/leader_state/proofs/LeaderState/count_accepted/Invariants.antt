@@ -1,0 +1,18 @@
+-- `LeaderState::count_accepted` meets its contract: the count so far is of the places passed.
+use Rattle.leader_state.specs.Places.{accepted_at}
+use Rattle.leader_state.specs.State.{fresh}
+use Rattle.base.proofs.Lists.{length-mapped}
+use Rattle.base.specs.Count.{count, count-step}
+use lib.ListN.{length, take}
+use lib.Dec.{leb}
+use borrow.Author.Rules.{rules}
+use native.Mathlib.Omega.{arith}
+use mathlib.Core.Path.{◌≡◌}
+use Prim.Native.Nat.{◌≤◌, ◌<◌, ◌-◌}
+use Rattle.leader_state.proofs.LeaderState.count_accepted.Given as goal
+
+abbrev pub invariant-loop-i : goal.invariant-loop-i
+invariant-loop-i l = (l.i ≤ l.end) × (l.end ≤ 7) × (length l.self.depots ≡ 7) × (l.n ≤ l.i) × (l.n ≡ count (λ d. leb l.idx d.accepted_idx) (take l.i l.self.depots))
+
+abbrev pub decreases-loop-i : goal.decreases-loop-i
+decreases-loop-i l = l.end - l.i

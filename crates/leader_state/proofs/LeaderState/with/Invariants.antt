@@ -1,0 +1,16 @@
+-- `LeaderState::with` meets its contract: the places passed are fresh, the others as found.
+use Rattle.leader_state.specs.State.{fresh, with_of}
+use Rattle.base.proofs.Lists.{length-mapped, on-first-turn}
+use Rattle.base.specs.Lists.{on_first}
+use lib.ListN.{length}
+use borrow.Author.Rules.{rules}
+use native.Mathlib.Omega.{arith}
+use mathlib.Core.Path.{◌≡◌}
+use Prim.Native.Nat.{◌≤◌, ◌-◌}
+use Rattle.leader_state.proofs.LeaderState.with.Given as goal
+
+abbrev pub invariant-loop-i : goal.invariant-loop-i
+invariant-loop-i l = (l.i ≤ l.end) × (l.end ≤ 7) × (length l.initial.depots ≡ 7) × (l.depots ≡ on_first l.i (λ d. fresh) l.initial.depots)
+
+abbrev pub decreases-loop-i : goal.decreases-loop-i
+decreases-loop-i l = l.end - l.i
