@@ -12,5 +12,5 @@ use Prim.Native.Nat.{◌≤◌, ◌<◌, ◌-◌}
 use Rattle.leader_state.proofs.LeaderState.count_accepted.Goals as goal
 
 pub loop-i-preserved : goal.loop-i-preserved
-loop-i-preserved c = let h : c.loop-i.i < length c.args.t1.depots = search rules in
+loop-i-preserved c = let h : c.loop-i.i < length c.args.self.depots = search rules in
     (search rules, search rules, search rules, search rules, count-step fresh _ _ _ _ _ c.loop-i.invariant.4 c.as_one-n.ensures.value h)

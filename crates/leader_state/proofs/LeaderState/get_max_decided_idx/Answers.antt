@@ -11,5 +11,5 @@ use Prim.Native.Nat.{◌≤◌, ◌<◌, ◌-◌}
 use Rattle.leader_state.proofs.LeaderState.get_max_decided_idx.Goals as goal
 
 pub loop-i-preserved : goal.loop-i-preserved
-loop-i-preserved c = let h : c.loop-i.i < length c.args.t1.depots = search rules in
+loop-i-preserved c = let h : c.loop-i.i < length c.args.self.depots = search rules in
     (search rules, search rules, search rules, most_step fresh _ _ _ _ _ _ c.loop-i.invariant.3 c.decided.ensures c.larger-best.ensures h)
