@@ -14,6 +14,7 @@ pub const REPORT_BYTES: usize = 10 + base::PUMPS * ROW_BYTES + 15;
 const ROW_BYTES: usize = 10;
 
 // `bad line N`.
+#[tactic(auto, unfolding(crate::specs::Page::bad_line_of))]
 pub fn put_bad_line(out: &mut [u8], line: u64) -> usize
     requires { report_bytes ≤ length out.old }
     ensures { Put out.old 0 (bad_line_of line) result out.new }
@@ -38,6 +39,7 @@ fn put_row(out: &mut [u8], at: usize, pump: u64, days: u64) -> usize
 }
 
 // The pumps with at least one charged day, in rising order.
+#[tactic(auto, unfolding(crate::specs::Page::rows_below))]
 fn put_rows(out: &mut [u8], at: usize, book: &[u64]) -> usize
     requires sound { Sound book.now }
     requires row_bytes_in_bounds { at + pumps * row_bytes ≤ length out.old }
@@ -66,6 +68,7 @@ fn days_of(answer: hire_book::Answer) -> u64
 }
 
 // A sound book is not refused.
+#[tactic(auto, unfolding(hire_book::specs::Step::total_step))]
 fn total_of(book: &[u64]) -> u64
     requires { Sound book.now }
     ensures { result ≡ stored_days book.now }
@@ -74,6 +77,7 @@ fn total_of(book: &[u64]) -> u64
 }
 
 // The heading, the pumps' lines and the total.
+#[tactic(auto, unfolding(crate::specs::Page::page_of))]
 pub fn put_page(out: &mut [u8], book: &[u64]) -> usize
     requires sound { Sound book.now }
     requires report_bytes_in_bounds { report_bytes ≤ length out.old }
