@@ -306,6 +306,7 @@ impl State {
 }
 
 impl Plan {
+    #[tactic(auto, unfolding(crate::specs::Box::planned))]
     fn with_send(mut self, m: Send) -> Plan
         requires messages_le_count { self.sends.messages ≤ self.sends.count }
         requires entries_bound { self.sends.entries ≤ 1024 * self.sends.count }
@@ -336,6 +337,7 @@ impl Plan {
 
 impl SequencePaxos {
     // A plan has room for eight things and a step plans six at most, so none is ever left out.
+    #[tactic(auto, unfolding(crate::specs::Box::push_of))]
     pub fn push_send(mut self, m: Send) -> SequencePaxos
         requires room { Room self }
         requires count_bound { m.count ≤ 1024 }
