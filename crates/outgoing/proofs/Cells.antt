@@ -1,15 +1,14 @@
 -- Cells of a list: one turn of moving them up, and entries put in before cells that moved up.
-use Prim.Native.Nat.{ℕ, zero, suc, ◌+◌, ◌-◌, ◌≤◌, ◌<◌}
-use mathlib.Core.Path.{◌≡◌, refl, sym, ap, ◌∙◌}
-use mathlib.Core.List.{List, [], ◌∷◌, ◌++◌, append_assoc, append-nil}
+use Prim.Native.Nat.{ℕ, suc, ◌+◌, ◌-◌, ◌≤◌, ◌<◌}
+use mathlib.Core.Path.{◌≡◌, sym, ap, ◌∙◌}
+use mathlib.Core.List.{List, ◌∷◌, ◌++◌, append_assoc}
 use native.Mathlib.Omega.{arith}
-use native.Mathlib.Numerals.{add-one}
 use native.Mathlib.Nat.{le_of_lt}
-use lib.ListN.{length, get_or, set, take, drop, length-append, length-take, length-drop, get_or-append}
-use lib.Seq.{drop-cons, take-suc, append_snoc, length-take-le, drop-drop, set_at, get_or-take, take_at, drop_at}
+use lib.ListN.{length, get_or, set, take, drop, length-append, get_or-append}
+use lib.Seq.{drop-cons, take-suc, append_snoc, length-take-le, drop-drop, set_at, get_or-take, drop_at}
 use Rattle.base.specs.Lists.{over}
 use Rattle.storage.specs.Storage.{put_at}
-use Rattle.storage.proofs.Laws.{put-parts, put-before, put-past}
+use Rattle.storage.proofs.Laws.{put-parts, put-before}
 
 -- a write that begins one place earlier
 pub put-more : (k : ℕ) (v : ℕ) (xs l : List ℕ) → k < length l → set (put_at (suc k) xs l) k v ≡ put_at k (v ∷ xs) l

@@ -5,9 +5,8 @@ use mathlib.Core.Bool.{Bool, true, false, cond}
 use mathlib.Core.List.{List, [], ◌∷◌, ◌++◌, map, map-append, append_assoc, append-nil}
 use native.Mathlib.Omega.{arith}
 use native.Mathlib.Numerals.{add-one}
-use native.Mathlib.Nat.{le_of_lt}
 use lib.ListN.{length, get_or, set, take, drop, length-append, length-take, length-drop, length-map, take-append-drop}
-use lib.Seq.{set_split, append_snoc, drop-cons, length-take-le, take-add, drop-drop, take-suc-set, drop-set-lt}
+use lib.Seq.{set_split, drop-cons, length-take-le, take-add, drop-drop, take-suc-set, drop-set-lt}
 use lib.Dec.{leb}
 use borrow.Author.Tests.{leb-true, leb-false}
 use Rattle.base.specs.Lists.{over}
@@ -16,7 +15,6 @@ use Rattle.paxos_box.specs.declared.Raise.{Raise}
 use Rattle.storage.proofs.Laid.{length_over}
 use Rattle.storage.specs.Storage.{put_at}
 use Rattle.storage.proofs.Laws.{put-over}
-use Rattle.messages.specs.declared.PaxosMsg.{PaxosMsg}
 use Rattle.messages.specs.declared.Head.{Head}
 use Rattle.messages.specs.declared.Row.{Row}
 use Rattle.messages.specs.Messages.{no_head}

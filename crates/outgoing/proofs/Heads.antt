@@ -1,16 +1,16 @@
 -- Heads in a row: what they carry, where packing puts them, and the entries that packed heads show.
-use Prim.Native.Nat.{ℕ, zero, suc, ◌+◌, ◌-◌, ◌≤◌, ◌<◌}
-use mathlib.Core.Path.{◌≡◌, refl, sym, ap, ◌∙◌}
+use Prim.Native.Nat.{ℕ, zero, suc, ◌+◌, ◌≤◌, ◌<◌}
+use mathlib.Core.Path.{◌≡◌, refl, sym, ap}
 use mathlib.Core.Bool.{Bool, true, false, cond}
-use mathlib.Core.List.{List, [], ◌∷◌, ◌++◌, map, append_assoc, append-nil}
+use mathlib.Core.List.{List, [], ◌∷◌, ◌++◌, map}
 use native.Mathlib.Omega.{arith}
 use lib.Dec.{eqb}
 use lib.ListN.{length, get_or, take, drop, length-append, length-take, length-drop}
-use lib.Seq.{take-add, drop-drop, take-nil}
+use lib.Seq.{take-add, drop-drop}
 use borrow.Author.Tests.{eqb-true}
 use Rattle.messages.specs.declared.Head.{Head}
 use Rattle.messages.specs.Messages.{no_head}
-use Rattle.outgoing.specs.Queue.{Msg, msg_of, entries_at, head_of, heads_from, entries_in}
+use Rattle.outgoing.specs.Queue.{msg_of, entries_at, heads_from, entries_in}
 use Rattle.outgoing.specs.Perform.{carried, Inside}
 use Rattle.outgoing.specs.Packing.{packed_from, start_at, starts_from, Whole, none, more}
 

@@ -24,7 +24,7 @@ use Rattle.paxos_box.specs.declared.Plan.{Plan}
 use Rattle.paxos_box.specs.declared.SequencePaxos.{SequencePaxos}
 use Rattle.paxos_box.specs.Box.{is_new, sending, planned, push_of}
 use Rattle.outgoing.specs.Queue.{Msg, Lent, lent, heads_from, entries_in, queue_of, laid}
-use Rattle.outgoing.specs.Perform.{Sources, source_of, entries_of, joined, raised, on_place, done_to, perform_one, perform_all, performed, items_of, new_in, count_in, carried, Sums, placed, Full, none, more, Fits, Inside}
+use Rattle.outgoing.specs.Perform.{Sources, source_of, entries_of, joined, raised, on_place, done_to, perform_one, perform_all, performed, items_of, new_in, count_in, carried, Sums, placed, Full, more, Fits, Inside}
 use Rattle.outgoing.specs.Packing.{Packed}
 use Rattle.outgoing.proofs.Laid.{laid-queue, laid-packed, past-over, length-heads, entries-append}
 use Rattle.outgoing.proofs.Heads.{front-packed, carried-append}

@@ -1,17 +1,15 @@
 -- A queue laid down packed: it is read back as it was, it lies packed, a longer one laid over it hides it, and a packed one lies as it would be laid.
-use Prim.Native.Nat.{ℕ, zero, suc, ◌+◌, ◌-◌, ◌≤◌, ◌<◌}
+use Prim.Native.Nat.{ℕ, suc, ◌+◌, ◌-◌, ◌≤◌}
 use mathlib.Core.Path.{◌≡◌, refl, sym, ap, subst, ◌∙◌}
-use mathlib.Core.List.{List, [], ◌∷◌, ◌++◌, map, append_assoc, append-nil}
+use mathlib.Core.List.{List, [], ◌∷◌, ◌++◌, map, append_assoc}
 use native.Mathlib.Omega.{arith}
-use lib.ListN.{length, take, drop, length-append, length-take, length-drop, length-map, take-append-drop}
+use lib.ListN.{length, take, drop, length-append, take-append-drop}
 use lib.Seq.{take_at, drop-append_seam, take-append_seam, drop-append-add, drop-drop, length-take-le}
 use Rattle.base.specs.Lists.{over}
 use Rattle.storage.proofs.Laid.{length_over}
-use Rattle.messages.specs.declared.Head.{Head}
-use Rattle.messages.specs.declared.Row.{Row}
-use Rattle.outgoing.specs.Queue.{Msg, Lent, lent, msg_of, entries_at, head_of, heads_from, entries_in, queue_of, laid}
+use Rattle.outgoing.specs.Queue.{Msg, Lent, msg_of, head_of, heads_from, entries_in, queue_of, laid}
 use Rattle.outgoing.specs.Perform.{carried}
-use Rattle.outgoing.specs.Packing.{starts_from, row_of, Packed}
+use Rattle.outgoing.specs.Packing.{starts_from, Packed}
 use Rattle.outgoing.proofs.Heads.{packed-whole, heads-queue, packed-entries}
 
 module _ {A : Type 0} where

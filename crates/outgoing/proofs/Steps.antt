@@ -1,13 +1,11 @@
 -- Planned things done one after the other: what each adds, and that laying down in between shows in nothing.
-use Prim.Native.Nat.{ℕ, zero, suc, ◌+◌, ◌-◌, ◌≤◌, ◌<◌}
-use mathlib.Core.Path.{◌≡◌, refl, sym, ap, ◌∙◌}
-use mathlib.Core.Bool.{Bool, true, false, cond}
-use mathlib.Core.List.{List, [], ◌∷◌, ◌++◌, map, append-nil}
+use Prim.Native.Nat.{ℕ, zero, suc, ◌+◌, ◌≤◌, ◌<◌}
+use mathlib.Core.Path.{◌≡◌, refl, ap, ◌∙◌}
+use mathlib.Core.List.{List, [], ◌∷◌, ◌++◌, append-nil}
 use native.Mathlib.Omega.{arith}
-use lib.ListN.{length, get_or, take, drop, length-append, length-take, length-map}
+use lib.ListN.{length, take, length-append, length-take, length-map}
 use lib.Seq.{length-take-le, get_or-take}
 use Rattle.base.specs.Limits.{max_messages, max_store}
-use Rattle.base.specs.Lists.{over}
 use Rattle.storage.proofs.Laid.{length_over, at_most}
 use Rattle.messages.specs.declared.Head.{Head}
 use Rattle.messages.specs.declared.Row.{Row}
@@ -20,11 +18,11 @@ use Rattle.paxos_box.specs.declared.Send.{Send}
 use Rattle.paxos_box.specs.declared.Sends.{Sends}
 use Rattle.messages.specs.Messages.{no_head}
 use Rattle.paxos_box.specs.Box.{is_new}
-use Rattle.outgoing.specs.Queue.{Msg, Lent, lent, msg_of, entries_in, queue_of, laid, heads_from}
+use Rattle.outgoing.specs.Queue.{Msg, Lent, lent, entries_in, queue_of, laid, heads_from}
 use Rattle.outgoing.specs.Perform.{Sources, source_of, entries_of, joined, raised, on_place, done_to, perform_one, perform_all, items_of, new_in, count_in, carried, Fits}
 use Rattle.outgoing.specs.Packing.{Packed, Whole, Ready}
 use Rattle.outgoing.proofs.Heads.{inside-whole, length-entries}
-use Rattle.outgoing.proofs.Laid.{laid-queue, laid-packed, laid-again, laid_same, length-heads, heads-carried, entries-append, take-over}
+use Rattle.outgoing.proofs.Laid.{laid-queue, laid-packed, laid-again, length-heads, heads-carried, entries-append, take-over}
 use Rattle.outgoing.proofs.Edits.{packed-length}
 
 -- a thing whose entries come from their source

@@ -1,23 +1,21 @@
 -- One turn of each loop over the heads, in terms of the heads that are left.
 use Prim.Native.Nat.{ℕ, zero, suc, ◌+◌, ◌-◌, ◌≤◌, ◌<◌}
-use mathlib.Core.Path.{◌≡◌, refl, sym, ap, ◌∙◌}
-use mathlib.Core.Bool.{Bool, true, false, cond}
-use mathlib.Core.List.{List, [], ◌∷◌, ◌++◌, map, append_assoc}
+use mathlib.Core.Path.{◌≡◌, refl}
+use mathlib.Core.Bool.{true, false}
+use mathlib.Core.List.{List, [], ◌∷◌, map}
 use native.Mathlib.Omega.{arith}
 use native.Mathlib.Numerals.{add-one}
-use lib.Dec.{eqb}
-use lib.ListN.{length, get_or, set, take, drop, length-set, length-drop, length-take, take-append-drop, drop_of_length-le}
+use lib.ListN.{length, get_or, set, take, drop, length-take, take-append-drop, drop_of_length-le}
 use lib.Seq.{drop-cons, get_or-take, length-take-le, append_snoc, take-suc-set, drop-set-lt}
 use borrow.Author.Tests.{eq-eqb, ne_eqb}
-use Rattle.base.specs.Lists.{over}
 use Rattle.storage.specs.Storage.{put_at}
 use Rattle.storage.proofs.Laws.{put-again, put-nothing}
 use Rattle.messages.specs.declared.Head.{Head}
 use Rattle.messages.specs.declared.PaxosMsg.TheVariants.{PrepareReq}
 use Rattle.messages.specs.Messages.{no_head}
-use Rattle.outgoing.specs.Queue.{Msg, msg_of, entries_at, entries_in}
+use Rattle.outgoing.specs.Queue.{msg_of, entries_at, entries_in}
 use Rattle.outgoing.specs.Perform.{carried}
-use Rattle.outgoing.specs.Packing.{packed_from, start_at, starts_from, restarted, end_of, Whole, none, more}
+use Rattle.outgoing.specs.Packing.{packed_from, start_at, starts_from, restarted, end_of, Whole, more}
 
 -- what the code's reading gives past the end of a row
 abbrev pub unset : Head

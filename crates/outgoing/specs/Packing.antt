@@ -1,6 +1,5 @@
 -- The steps of packing, pushing and joining, each on the heads or on the cells alone.
 use Rattle.std.specs.Prelude.{ℕ, zero, suc, ◌+◌, ◌-◌, ◌≤◌, ◌≡◌, Bool, true, false, cond, List, [], ◌∷◌, ◌++◌, eqb, leb, take, drop, length, get_or, set}
-use Rattle.messages.specs.declared.PaxosMsg.{PaxosMsg}
 use Rattle.messages.specs.declared.Head.{Head}
 use Rattle.messages.specs.declared.Row.{Row}
 use Rattle.messages.specs.Messages.{with_decided, with_accepted, no_head}
