@@ -17,7 +17,7 @@ use Rattle.agreement.specs.Core.{Sizes, Ghost, Same, Mark, Core}
 use Rattle.agreement.specs.Growth.{Ext, Moved}
 use Rattle.agreement.specs.Moves.{raise}
 use Rattle.agreement.specs.Facts.{Borne, Holds}
-use Rattle.agreement.specs.Report.{Sync, none, from, Brings, Report, Asks, Offer, Answer, Told, Promises}
+use Rattle.agreement.specs.Report.{Sync, from, Brings, Report, Asks, Offer, Answer, Told, Promises}
 use Rattle.agreement.proofs.Order.{never, upto-refl, upto-eq, upto-trans, below-upto, below_apart, within-trans}
 use Rattle.agreement.proofs.Same.{same-sym, same-trans, same-down, same_whole}
 use Rattle.agreement.proofs.Growth.{mark-below, moves, log-kept, mark-up, mark-fits}
