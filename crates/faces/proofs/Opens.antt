@@ -7,7 +7,7 @@ use mathlib.Core.List.{List}
 use native.Mathlib.Omega.{arith}
 use native.Mathlib.Numerals.{add-one}
 use lib.Dec.{ltb}
-use lib.ListN.{length, get_or}
+use lib.ListN.{get_or}
 use borrow.Author.Tests.{ltb-true, lt-ltb}
 use Rattle.base.proofs.Tests.{not-both}
 use Rattle.base.specs.Limits.{max_depots}

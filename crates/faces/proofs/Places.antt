@@ -12,7 +12,7 @@ use borrow.Author.Tests.{lt-ltb, ltb-true, ltb-false, leb-true, eqb-true, eqb-fa
 use Rattle.base.proofs.Tests.{not-both}
 use Rattle.base.specs.Limits.{max_depots}
 use Rattle.base.specs.Lists.{on_first}
-use Rattle.base.specs.Count.{one, count, count_below, most}
+use Rattle.base.specs.Count.{count, count_below, most}
 use Rattle.base.proofs.Lists.{get_d_tabulate}
 use Rattle.base.proofs.Meet.{count-places}
 use Rattle.ballot.specs.Ballot.{compare_of, is_above, is_same, above, same}

@@ -1,5 +1,5 @@
 -- A Promise at a leader: it is noted; a read quorum starts the ballot; a late one is synced.
-use Prim.Native.Nat.{ℕ, ◌+◌, ◌-◌, ◌≤◌, ◌<◌, min, max}
+use Prim.Native.Nat.{ℕ, ◌+◌, ◌≤◌, ◌<◌, max}
 use mathlib.Core.Path.{◌≡◌, refl, sym, ap, ◌∙◌, subst}
 use mathlib.Core.Logic.{◌⊎◌, inl, inr, ◌≢◌}
 use mathlib.Core.Bool.{Bool, true, false, cond, not, ◌&&◌}
@@ -10,7 +10,7 @@ use lib.ListN.{length, take, length-append, length-take}
 use lib.Seq.{take-take}
 use borrow.Author.Tests.{ne_eqb}
 use Rattle.base.proofs.Tests.{not-both}
-use Rattle.base.specs.Limits.{max_depots, max_log}
+use Rattle.base.specs.Limits.{max_depots}
 use Rattle.base.specs.Count.{count_below}
 use Rattle.ballot.specs.Ballot.{same}
 use Rattle.ballot.specs.declared.Ballot.{Ballot}

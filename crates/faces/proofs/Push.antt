@@ -1,11 +1,11 @@
 -- One thing more in the plan: what it does to the face. And the face of the box as it is found.
-use Prim.Native.Nat.{ℕ, zero, suc, ◌+◌, ◌<◌}
+use Prim.Native.Nat.{ℕ, ◌+◌, ◌<◌}
 use mathlib.Core.Path.{◌≡◌, refl, ap, ◌∙◌}
 use mathlib.Core.Bool.{Bool, true, false, cond}
 use mathlib.Core.List.{List, [], ◌∷◌, ◌++◌, append-nil}
 use native.Mathlib.Omega.{arith}
 use lib.Dec.{ltb}
-use lib.ListN.{length, take, length-set, length-append}
+use lib.ListN.{length, take, length-set}
 use lib.Seq.{take_all}
 use borrow.Author.Tests.{lt-ltb}
 use Rattle.quorum.specs.declared.Configuration.{Configuration}
@@ -18,8 +18,6 @@ use Rattle.paxos_box.specs.declared.Sight.{Sight}
 use Rattle.record.specs.Record.{load_of}
 use Rattle.paxos_box.specs.declared.Send.{Send}
 use Rattle.paxos_box.specs.declared.Source.{Source}
-use Rattle.paxos_box.specs.declared.Sent.{Sent}
-use Rattle.paxos_box.specs.declared.Sent.TheVariants.{New, Join, Raise}
 use Rattle.paxos_box.specs.Box.{with_plan, is_new, sending, planned, push_of, next_place}
 use Rattle.paxos_box.proofs.Rooms.{items_more}
 use Rattle.sends.specs.Sends.{send_new}
@@ -27,7 +25,7 @@ use Rattle.follower.specs.Follower.{count_of}
 use Rattle.broken.specs.Broken.{cached_sync, best_sync}
 use Rattle.outgoing.specs.Queue.{Msg}
 use Rattle.outgoing.proofs.Steps.{step-longer}
-use Rattle.outgoing.specs.Perform.{Sources, source_of, entries_of, on_place, done_to, perform_one, perform_all, items_of}
+use Rattle.outgoing.specs.Perform.{Sources, source_of, perform_one, perform_all, items_of}
 use Rattle.views.specs.View.{View, held_entries, Counted}
 use Rattle.travels.specs.Face.{Face, with_queue, push}
 use Rattle.faces.specs.Mid.{face_of, mid_sources, mid_face, Clean, Ready}
