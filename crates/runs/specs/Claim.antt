@@ -1,5 +1,5 @@
 -- The claim of demand 3, of every run: the depots agree, what is decided stays and was proposed, the books are those of the decided entries, and no pump is charged twice for one day.
-use Rattle.std.specs.Prelude.{ℕ, ◌+◌, ◌≤◌, ◌<◌, ◌≡◌, List, [], ◌∷◌, ◌++◌, get_or, take}
+use Rattle.std.specs.Prelude.{ℕ, ◌≤◌, ◌<◌, ◌≡◌, List, ◌∷◌, ◌++◌, get_or, take}
 use Rattle.hire_book.specs.Hire.{charges_of, times, total}
 use Rattle.hire_book.specs.Book.{book_of, stored_days}
 use Rattle.runs.specs.Runs.{Setup, State, Start, Move, after}

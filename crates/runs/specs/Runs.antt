@@ -1,6 +1,6 @@
 -- Runs of a cluster: depots that start fresh with one configuration, links that may lose a message but keep their order and neither duplicate nor alter one, and any
 -- sequence of moves whatever. Depot i (counted from 0) has the pid i + 1. What a depot does is `step_of`, the definition that the code's promise cites, and nothing else.
-use Rattle.std.specs.Prelude.{ℕ, ◌+◌, ◌<◌, ◌≡◌, Bool, true, cond, ◌&&◌, List, [], ◌∷◌, ◌++◌, eqb, length}
+use Rattle.std.specs.Prelude.{ℕ, ◌+◌, ◌<◌, ◌≡◌, true, cond, ◌&&◌, List, [], ◌∷◌, ◌++◌, eqb, length}
 use Rattle.base.specs.Limits.{max_log, max_store}
 use Rattle.ballot.specs.declared.Ballot.{Ballot}
 use Rattle.quorum.specs.declared.Configuration.{Configuration}
