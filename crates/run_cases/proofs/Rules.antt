@@ -5,16 +5,15 @@ use mathlib.Core.Path.{◌≡◌, refl, ap}
 use mathlib.Core.Bool.{Bool, true, false, cond}
 use mathlib.Core.List.{List, [], ◌∷◌, map}
 use native.Mathlib.Omega.{arith}
-use lib.Dec.{eqb, ltb}
+use lib.Dec.{eqb}
 use borrow.Author.Tests.{eqb-true, eq-eqb, le-ltb}
 use Rattle.quorum.specs.declared.Configuration.{Configuration}
 use Rattle.leader_state.specs.declared.Depot.{Depot}
-use Rattle.leader_state.specs.State.{with_depots}
 use Rattle.messages.specs.declared.Event.{Event}
 use Rattle.record.specs.declared.Record.{Record}
 use Rattle.step.specs.Step.{World, step_of}
 use Rattle.runs.specs.Runs.{Setup, State, Move, put_at, config_of, moved, after}
-use Rattle.run_cases.specs.Old.{Rule, ours, old, kept_place, kept_places, ruled, step_by, mover, kept_by, moved_by, after_by}
+use Rattle.run_cases.specs.Old.{Rule, ours, old, kept_places, ruled, step_by, mover, moved_by, after_by}
 use Rattle.run_cases.specs.Loose.{keeps, moved_loose, after_loose}
 
 pub step-ours : (c : Configuration) (e : Event) (entries : List ℕ) (w : World) → step_by ours c e entries w ≡ step_of c e entries w

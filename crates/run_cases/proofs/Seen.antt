@@ -2,14 +2,14 @@
 use Prim.Native.Nat.{ℕ, zero, suc, ◌<◌}
 use mathlib.Core.Path.{◌≡◌, refl, ap, sym, ◌∙◌}
 use mathlib.Core.Bool.{true}
-use mathlib.Core.List.{List, [], ◌∷◌}
+use mathlib.Core.List.{List, []}
 use native.Mathlib.Omega.{arith}
 use lib.ListN.{get_or, length-replicate}
 use Rattle.base.specs.Limits.{max_log, max_store}
 use Rattle.base.proofs.Lists.{get_d_tabulate}
 use Rattle.quorum.specs.Quorum.{stands_of}
 use Rattle.runs.specs.Runs.{Setup, State, Start, Move, config_of, after}
-use Rattle.runs.specs.Claim.{Claim, decided, history}
+use Rattle.runs.specs.Claim.{Claim}
 use Rattle.run_cases.specs.Seen.{start, Seen, seen, all, having, Agree}
 
 -- (a) of the claim on runs

@@ -1,6 +1,6 @@
 -- What the computed runs show: the claim on runs is about runs in which entries are decided, and it fails by the old rule, and over links that do not keep their order.
 use Rattle.std.specs.Prelude.{◌≡◌, [], ◌∷◌}
-use Rattle.hire_book.specs.Book.{book_of, charged}
+use Rattle.hire_book.specs.Book.{charged}
 use Rattle.runs.specs.Runs.{State, Start, after}
 use Rattle.run_cases.specs.Seen.{two, three, start, Seen, all, having, Agree}
 use Rattle.run_cases.specs.Old.{old, after_by}

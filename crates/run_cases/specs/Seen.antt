@@ -1,10 +1,9 @@
 -- Two clusters, their start, and what is seen of each depot: its decided index, its decided entries and its book.
-use Rattle.std.specs.Prelude.{ℕ, ◌<◌, ◌≡◌, List, [], ◌∷◌, replicate, get_or}
+use Rattle.std.specs.Prelude.{ℕ, ◌<◌, ◌≡◌, List, [], replicate, get_or}
 use Rattle.base.specs.Limits.{max_log, max_store, max_messages}
 use Rattle.base.specs.Lists.{tabulate}
 use Rattle.quorum.specs.declared.Quorum.TheVariants.{Majority}
 use Rattle.quorum.specs.Quorum.{majority_of}
-use Rattle.messages.specs.declared.Row.{Row}
 use Rattle.messages.specs.Messages.{no_head}
 use Rattle.record.specs.Record.{fresh_record}
 use Rattle.hire_book.specs.Book.{fresh_book, book_of}
