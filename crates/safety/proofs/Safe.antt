@@ -3,7 +3,7 @@ use Prim.Native.Nat.{ℕ, ◌<◌}
 use mathlib.Core.Path.{◌≡◌, sym, ap, subst, ◌∙◌}
 use mathlib.Core.List.{List, [], ◌∷◌}
 use native.Mathlib.Omega.{arith}
-use lib.ListN.{get_or, take, length}
+use lib.ListN.{get_or, take}
 use Rattle.quorum.proofs.Laws.{Stands, stands-says}
 use Rattle.views.specs.View.{view_of}
 use Rattle.views.proofs.Step.{history-view}
