@@ -16,6 +16,7 @@ fn no_depot(c: Configuration, pid: u64) -> bool
 }
 
 // 0, above the depots, or oneself.
+#[tactic(auto, unfolding(crate::specs::Unfit::wrong_sender))]
 fn wrong_sender(c: Configuration, from: u64) -> bool
     ensures { result ≡ wrong_sender c from }
 {
@@ -69,6 +70,7 @@ pub fn carries(m: PaxosMsg) -> bool
     }
 }
 
+#[tactic(auto, unfolding(crate::specs::Unfit::entry_above))]
 fn entry_above(m: PaxosMsg, entries: &[u64]) -> bool
     ensures { result ≡ entry_above m entries.now }
 {
@@ -84,6 +86,7 @@ fn past(idx: usize) -> bool
     MAX_LOG < idx
 }
 
+#[tactic(auto, unfolding(crate::specs::Unfit::either_past))]
 fn either_past(a: usize, b: usize) -> bool
     ensures { result ≡ either_past a b }
 {
@@ -124,6 +127,7 @@ fn index_above(m: PaxosMsg) -> bool
     }
 }
 
+#[tactic(auto, unfolding(crate::specs::Unfit::count_off))]
 fn count_off(n: usize) -> bool
     ensures { result ≡ count_off n }
 {
@@ -150,6 +154,7 @@ fn forward_off(m: PaxosMsg, n: usize) -> bool
 }
 
 // A nonzero ballot whose pid is no depot.
+#[tactic(auto, unfolding(crate::specs::Unfit::foreign))]
 pub fn foreign(c: Configuration, n: Ballot) -> bool
     ensures { result ≡ foreign c n }
 {
@@ -159,6 +164,7 @@ pub fn foreign(c: Configuration, n: Ballot) -> bool
     no_depot(c, n.pid)
 }
 
+#[tactic(auto, unfolding(crate::specs::Unfit::either_foreign))]
 pub fn either_foreign(c: Configuration, a: Ballot, b: Ballot) -> bool
     ensures { result ≡ either_foreign c a b }
 {
@@ -238,6 +244,7 @@ fn decided_above(m: PaxosMsg) -> bool
     }
 }
 
+#[tactic(auto, unfolding(crate::specs::Unfit::message_unfit))]
 fn message_unfit(c: Configuration, from: u64, m: PaxosMsg, entries: &[u64]) -> bool
     ensures { result ≡ message_unfit c from m entries.now }
 {
@@ -262,6 +269,7 @@ fn message_unfit(c: Configuration, from: u64, m: PaxosMsg, entries: &[u64]) -> b
     decided_above(m)
 }
 
+#[tactic(auto, unfolding(crate::specs::Unfit::proposal_unfit))]
 fn proposal_unfit(entries: &[u64]) -> bool
     ensures { result ≡ proposal_unfit entries.now }
 {
