@@ -25,6 +25,7 @@ fn smaller(a: usize, b: usize) -> usize
 }
 
 // A sync that ends past the log's limit.
+#[tactic(auto, unfolding(crate::specs::Log::ends_past))]
 pub fn ends_past(x: LogSync) -> bool
     ensures { result ≡ ends_past x }
 {
@@ -34,6 +35,7 @@ pub fn ends_past(x: LogSync) -> bool
     MAX_LOG - x.sync_idx < x.len
 }
 
+#[tactic(auto, unfolding(crate::specs::Log::put_unfit))]
 fn put_unfit(
     start: usize,
     end: usize,
@@ -58,6 +60,7 @@ fn put_unfit(
 
 // A sync that may not be put on this log: it ends past the limit, starts past that log, changes a place below the own decided index, or
 // ends below that index or the decided index it brings. `change` is the first place that it changes.
+#[tactic(auto, unfolding(crate::specs::Log::sync_unfit))]
 pub fn sync_unfit(s: SequencePaxos, x: LogSync, change: usize, brings: usize) -> bool
     ensures { result ≡ sync_unfit x change brings s }
 {
@@ -93,6 +96,7 @@ fn synced(s: SequencePaxos, n: Ballot, decided: usize, end: usize) -> SequencePa
 }
 
 // With or without a sync, which `op` puts on.
+#[tactic(auto, unfolding(crate::specs::Log::sync_log))]
 pub fn sync_log(s: SequencePaxos, n: Ballot, decided: usize, end: usize, op: LogOp) -> SequencePaxos
     requires room { Room s }
     requires end_bound { end ≤ 1024 }
@@ -106,6 +110,7 @@ pub fn sync_log(s: SequencePaxos, n: Ballot, decided: usize, end: usize, op: Log
 }
 
 // The given entries join the log's end.
+#[tactic(auto, unfolding(crate::specs::Log::append_given))]
 pub fn append_entries(s: SequencePaxos, count: usize) -> SequencePaxos
     requires room { Room s }
     requires count_bound { s.internal_storage.accepted_idx + count ≤ 1024 }
@@ -119,6 +124,7 @@ pub fn append_entries(s: SequencePaxos, count: usize) -> SequencePaxos
     s1.set_writes(w.with_log(LogOp::Append(count)))
 }
 
+#[tactic(auto, unfolding(crate::specs::Log::kept_of))]
 fn kept(waiting: usize, len: usize) -> usize
     ensures value { result ≡ kept_of waiting len }
     ensures upper_bound { result ≤ waiting }
@@ -130,6 +136,7 @@ fn kept(waiting: usize, len: usize) -> usize
 }
 
 // Buffered proposals join the log's end; those past its limit are dropped from the end.
+#[tactic(auto, unfolding(crate::specs::Log::append_buffered))]
 pub fn append_buffered(s: SequencePaxos) -> SequencePaxos
     requires { Room s }
     ensures value { result ≡ append_buffered s }
@@ -146,6 +153,7 @@ pub fn append_buffered(s: SequencePaxos) -> SequencePaxos
 }
 
 // The given entries join the buffered proposals.
+#[tactic(auto, unfolding(crate::specs::Log::buffer_given))]
 pub fn buffer_proposals(s: SequencePaxos, count: usize) -> SequencePaxos
     requires room { Room s }
     requires count_bound { s.buffered_proposals + count ≤ 64 }
@@ -160,6 +168,7 @@ pub fn buffer_proposals(s: SequencePaxos, count: usize) -> SequencePaxos
 }
 
 // The promise names another depot.
+#[tactic(auto, unfolding(crate::specs::Log::has_leader))]
 fn has_leader(s: SequencePaxos) -> bool
     ensures { result ≡ has_leader s }
 {
@@ -189,6 +198,7 @@ fn push_forward(s: SequencePaxos, source: Source, count: usize) -> SequencePaxos
 }
 
 // The given entries go to the promise's pid; if that is 0 or oneself, they are buffered.
+#[tactic(auto, unfolding(crate::specs::Log::forward_proposals))]
 pub fn forward_proposals(s: SequencePaxos, count: usize) -> SequencePaxos
     requires room { Room s }
     requires count_bound { count ≤ 1024 }
@@ -203,6 +213,7 @@ pub fn forward_proposals(s: SequencePaxos, count: usize) -> SequencePaxos
 }
 
 // The buffered proposals, if any, go to the promise's pid; if that is 0 or oneself, they stay.
+#[tactic(auto, unfolding(crate::specs::Log::forward_buffered))]
 pub fn forward_buffered_proposals(s: SequencePaxos) -> SequencePaxos
     requires { Room s }
     ensures value { result ≡ forward_buffered s }

@@ -1,0 +1,9 @@
+-- `sync_unfit` meets its contract.
+use Rattle.log_plan.proofs.Ends.{ends-within}
+use Rattle.log_plan.specs.Log.{sync_unfit}
+use native.Mathlib.Omega.{arith}
+use borrow.Author.Rules.{rules}
+use Rattle.log_plan.proofs.sync_unfit.Goals as goal
+
+pub overflow_add-x : goal.overflow_add-x
+overflow_add-x c = let h = ends-within c.args.x (rw (← c.ends_past.ensures) c.if-ends_past.false) in omega (arith, h)
