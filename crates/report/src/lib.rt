@@ -34,6 +34,7 @@ pub struct Finished {
 }
 
 // What a line's digits say with one byte more; above the entry limit it stays, so that no sum wraps.
+#[tactic(auto, unfolding(crate::specs::Reading::value_after))]
 fn value_after(value: u64, byte: u8) -> u64
     ensures { result ≡ value_after value byte }
 {
@@ -50,6 +51,7 @@ fn value_after(value: u64, byte: u8) -> u64
 }
 
 // The next line's number, which stays at the largest that 64 bits hold.
+#[tactic(auto, unfolding(crate::specs::Reading::line_after))]
 fn line_after(line: u64) -> u64
     ensures { result ≡ line_after line }
 {
@@ -101,6 +103,7 @@ impl Reader {
 }
 
 // A line ends: its entry is applied, or the line is bad.
+#[tactic(auto, unfolding(crate::specs::Reading::end_of))]
 fn end_line(reader: Reader, book: &mut [u64]) -> Reader
     requires { Sound book.old }
     ensures { reading result book.new ≡ end_of (reading reader book.old) }
@@ -117,6 +120,7 @@ fn end_line(reader: Reader, book: &mut [u64]) -> Reader
 }
 
 // A byte of a line, or the line's end; after a bad line all is skipped.
+#[tactic(auto, unfolding(crate::specs::Reading::byte_of))]
 fn take_byte(reader: Reader, byte: u8, book: &mut [u64]) -> Reader
     requires { Sound book.old }
     ensures { reading result book.new ≡ byte_of byte (reading reader book.old) }
@@ -130,6 +134,7 @@ fn take_byte(reader: Reader, byte: u8, book: &mut [u64]) -> Reader
     reader.with_byte(byte)
 }
 
+#[tactic(auto, unfolding(crate::specs::Reading::feed_of))]
 fn take_part(reader: Reader, part: &[u8], book: &mut [u64]) -> Reader
     requires { Sound book.old }
     ensures { reading result book.new ≡ feed_of (reading reader book.old) part.now }
@@ -144,6 +149,7 @@ fn take_part(reader: Reader, part: &[u8], book: &mut [u64]) -> Reader
 }
 
 // A part of the input, taken in order after the parts before it; refused with 1 or 2, the reader and the book stay.
+#[tactic(auto, unfolding(crate::specs::Step::feed_step))]
 pub fn feed(reader: Reader, part: &[u8], book: &mut [u64]) -> Fed
     ensures { seen_fed result book.new ≡ feed_step (reading reader book.old) part.now }
 {
@@ -161,6 +167,7 @@ pub fn feed(reader: Reader, part: &[u8], book: &mut [u64]) -> Fed
 }
 
 // The input ends: a line that has begun ends too.
+#[tactic(auto, unfolding(crate::specs::Reading::last_of))]
 fn take_last(reader: Reader, book: &mut [u64]) -> Reader
     requires { Sound book.old }
     ensures { reading result book.new ≡ last_of (reading reader book.old) }
@@ -174,6 +181,7 @@ fn take_last(reader: Reader, book: &mut [u64]) -> Reader
     reader
 }
 
+#[tactic(auto, unfolding(crate::specs::Reading::output_of))]
 fn put_report(reader: Reader, book: &[u64], out: &mut [u8]) -> usize
     requires sound { Sound book.now }
     requires report_bytes_in_bounds { report_bytes ≤ length out.old }
@@ -188,6 +196,7 @@ fn put_report(reader: Reader, book: &[u64], out: &mut [u8]) -> usize
 
 // The input ends, and the whole report is written to the start of `out`, whose further bytes stay as found; the answer counts its bytes. Refused with 1
 // where the book is of the wrong length or `out` is shorter than page::REPORT_BYTES, with 2 where the book is broken; then all stays.
+#[tactic(auto, unfolding(crate::specs::Step::finish_step))]
 pub fn finish(reader: Reader, book: &mut [u64], out: &mut [u8]) -> Finished
     ensures out_after { seen_report result book.new out.new ≡ finish_step (reading reader book.old) out.old }
     ensures counted { Counted result.count out.new }
