@@ -18,6 +18,7 @@ pub struct Decision {
 }
 
 // Every remembered position is forgotten, the Accepted's included.
+#[tactic(auto, unfolding(crate::specs::Outcome::drained))]
 pub fn take_outgoing_msgs(s: SequencePaxos) -> SequencePaxos
     requires { Room s }
     ensures value { result ≡ drained s }
@@ -29,6 +30,7 @@ pub fn take_outgoing_msgs(s: SequencePaxos) -> SequencePaxos
 }
 
 // Promise, accepted round, log and decided index are kept; all else is as fresh.
+#[tactic(auto, unfolding(crate::specs::Outcome::restarted))]
 pub fn restart(s: SequencePaxos) -> SequencePaxos
     requires { Room s }
     ensures value { result ≡ restarted s }
@@ -43,6 +45,7 @@ pub fn restart(s: SequencePaxos) -> SequencePaxos
     s5.set_cached(CachedMessage::Nothing)
 }
 
+#[tactic(auto, unfolding(crate::specs::Outcome::queue_refusal))]
 fn queue_refusal(messages: usize, entries: usize) -> u32
     ensures { result ≡ queue_refusal messages entries }
 {
@@ -56,6 +59,7 @@ fn queue_refusal(messages: usize, entries: usize) -> u32
 }
 
 // The refusals that the taken step itself shows, in the table's order: 4, 7, 5, 8, 6.
+#[tactic(auto, unfolding(crate::specs::Outcome::outcome_refusal))]
 fn outcome_refusal(s: SequencePaxos) -> u32
     requires { Room s }
     ensures { result ≡ outcome_refusal s }
@@ -78,6 +82,7 @@ fn outcome_refusal(s: SequencePaxos) -> u32
     queue_refusal(q.len + x.messages, q.entries + x.entries)
 }
 
+#[tactic(auto, unfolding(crate::specs::Outcome::settled))]
 pub fn settle(found: SequencePaxos, s: SequencePaxos) -> Decision
     requires { Room s }
     ensures { result ≡ settled found s }

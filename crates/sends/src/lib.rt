@@ -24,6 +24,7 @@ pub enum Each {
 }
 
 // How many entries the log has from a place on.
+#[tactic(auto, unfolding(crate::specs::Sends::suffix_length))]
 pub fn suffix_length(len: usize, from: usize) -> usize
     ensures value { result ≡ suffix_length len from }
     ensures upper_bound { result ≤ len }
@@ -32,6 +33,7 @@ pub fn suffix_length(len: usize, from: usize) -> usize
 }
 
 // A log sync to be built from past the own log's end makes the message unfit.
+#[tactic(auto, unfolding(crate::specs::Sends::sync_fits))]
 pub fn check_log_sync(s: SequencePaxos, from: usize) -> SequencePaxos
     requires { Room s }
     ensures value { result ≡ sync_fits from s }
@@ -43,6 +45,7 @@ pub fn check_log_sync(s: SequencePaxos, from: usize) -> SequencePaxos
     s
 }
 
+#[tactic(auto, unfolding(crate::specs::Sends::next_session_of))]
 fn increment_seq_num_session(s: SequencePaxos, to: u64) -> SequencePaxos
     requires room { Room s }
     requires own_place { own_place to }
@@ -57,6 +60,7 @@ fn increment_seq_num_session(s: SequencePaxos, to: u64) -> SequencePaxos
     s.set_leader_state(l.increment_seq_num_session(to))
 }
 
+#[tactic(auto, unfolding(crate::specs::Sends::next_seq_num_of))]
 fn next_seq_num(s: SequencePaxos, to: u64) -> SequencePaxos
     requires room { Room s }
     requires own_place { own_place to }
@@ -81,6 +85,7 @@ pub fn set_latest_accept_meta(s: SequencePaxos, to: u64, latest: Latest) -> Sequ
     s.set_leader_state(l.set_latest_accept_meta(to, latest))
 }
 
+#[tactic(auto, unfolding(crate::specs::Sends::send_prepare))]
 pub fn send_prepare(s: SequencePaxos, to: u64) -> SequencePaxos
     requires { Room s }
     ensures value { result ≡ send_prepare to s }
@@ -105,6 +110,7 @@ pub fn send_prepare(s: SequencePaxos, to: u64) -> SequencePaxos
 }
 
 // The session is raised, its counter starts at 1, and (the departure) the remembered AcceptDecide is forgotten.
+#[tactic(auto, unfolding(crate::specs::Sends::new_session))]
 fn new_session(s: SequencePaxos, to: u64) -> SequencePaxos
     requires room { Room s }
     requires own_place { own_place to }
@@ -116,6 +122,7 @@ fn new_session(s: SequencePaxos, to: u64) -> SequencePaxos
     set_latest_accept_meta(s2, to, Latest::Nothing)
 }
 
+#[tactic(auto, unfolding(crate::specs::Sends::push_acc_sync))]
 fn push_accsync(s: SequencePaxos, to: u64, from: usize) -> SequencePaxos
     requires room { Room s }
     requires own_place { own_place to }
@@ -140,6 +147,7 @@ fn push_accsync(s: SequencePaxos, to: u64, from: usize) -> SequencePaxos
     })
 }
 
+#[tactic(auto, unfolding(crate::specs::Sends::send_acc_sync))]
 fn send_accsync_from(s: SequencePaxos, to: u64, follower: PromiseMetaData) -> SequencePaxos
     requires room { Room s }
     requires own_place { own_place to }
@@ -156,6 +164,7 @@ fn send_accsync_from(s: SequencePaxos, to: u64, follower: PromiseMetaData) -> Se
 }
 
 // A depot that has promised is synced from where its promise says.
+#[tactic(auto, unfolding(crate::specs::Sends::acc_sync_to))]
 pub fn send_accsync(s: SequencePaxos, to: u64) -> SequencePaxos
     requires room { Room s }
     requires own_place { own_place to }
@@ -172,6 +181,7 @@ pub fn send_accsync(s: SequencePaxos, to: u64) -> SequencePaxos
 }
 
 // The remembered AcceptDecide, where an AcceptDecide stands at its position.
+#[tactic(auto, unfolding(crate::specs::Sends::latest_accdec))]
 fn get_latest_accdec_message(s: SequencePaxos, to: u64) -> Latest
     requires { own_place to }
     ensures { result ≡ latest_accdec to s }
@@ -189,6 +199,7 @@ fn get_latest_accdec_message(s: SequencePaxos, to: u64) -> Latest
 }
 
 // Entries and the decided index join the AcceptDecide at a position of the queue.
+#[tactic(auto, unfolding(crate::specs::Sends::join_to))]
 fn join(s: SequencePaxos, to: u64, at: usize, from: usize, count: usize) -> SequencePaxos
     requires room { Room s }
     requires count_bound { count ≤ 1024 }
@@ -204,6 +215,7 @@ fn join(s: SequencePaxos, to: u64, at: usize, from: usize, count: usize) -> Sequ
     })
 }
 
+#[tactic(auto, unfolding(crate::specs::Sends::push_accept_decide))]
 fn push_acceptdecide(s: SequencePaxos, to: u64, from: usize, count: usize) -> SequencePaxos
     requires room { Room s }
     requires own_place { own_place to }
@@ -228,6 +240,7 @@ fn push_acceptdecide(s: SequencePaxos, to: u64, from: usize, count: usize) -> Se
 }
 
 // A new AcceptDecide, remembered by its position.
+#[tactic(auto, unfolding(crate::specs::Sends::new_accept_decide))]
 fn new_acceptdecide(s: SequencePaxos, to: u64, from: usize, count: usize) -> SequencePaxos
     requires room { Room s }
     requires own_place { own_place to }
@@ -242,6 +255,7 @@ fn new_acceptdecide(s: SequencePaxos, to: u64, from: usize, count: usize) -> Seq
 }
 
 // Entries that joined the log at `from` go to one depot, in a remembered AcceptDecide or a new one.
+#[tactic(auto, unfolding(crate::specs::Sends::accept_decide_to))]
 pub fn send_acceptdecide(s: SequencePaxos, to: u64, from: usize, count: usize) -> SequencePaxos
     requires room { Room s }
     requires own_place { own_place to }
@@ -256,6 +270,7 @@ pub fn send_acceptdecide(s: SequencePaxos, to: u64, from: usize, count: usize) -
     }
 }
 
+#[tactic(auto, unfolding(crate::specs::Sends::push_decide))]
 fn push_decide(s: SequencePaxos, to: u64) -> SequencePaxos
     requires room { Room s }
     requires own_place { own_place to }
@@ -279,6 +294,7 @@ fn push_decide(s: SequencePaxos, to: u64) -> SequencePaxos
 }
 
 // The decided index goes to one depot, in a remembered AcceptDecide or a Decide.
+#[tactic(auto, unfolding(crate::specs::Sends::decide_to))]
 pub fn send_decide(s: SequencePaxos, to: u64) -> SequencePaxos
     requires room { Room s }
     requires own_place { own_place to }
@@ -292,6 +308,7 @@ pub fn send_decide(s: SequencePaxos, to: u64) -> SequencePaxos
     }
 }
 
+#[tactic(auto, unfolding(crate::specs::Sends::send_prepare_req))]
 pub fn send_preparereq(s: SequencePaxos, to: u64) -> SequencePaxos
     requires { Room s }
     ensures value { result ≡ send_prepare_req to s }
@@ -338,6 +355,7 @@ fn send_turn(s: SequencePaxos, what: Each, on: bool, to: u64) -> SequencePaxos
 }
 
 // To each depot whose place is marked, in rising order.
+#[tactic(auto, unfolding(crate::specs::Sends::for_marked))]
 pub fn send_each(s: SequencePaxos, what: Each, marks: [bool; 7]) -> SequencePaxos
     requires room { Room s }
     requires few_entries { few_entries what }
@@ -358,6 +376,7 @@ pub fn send_each(s: SequencePaxos, what: Each, marks: [bool; 7]) -> SequencePaxo
 }
 
 // A mark for each place: the depot there is not oneself.
+#[tactic(auto, unfolding(base::specs::Lists::tabulate, crate::specs::Sends::peers_of))]
 pub fn peers(c: Configuration) -> [bool; 7]
     requires { c.depots ≤ max_depots }
     ensures { result ≡ peers_of c }

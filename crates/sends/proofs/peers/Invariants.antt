@@ -1,0 +1,17 @@
+-- `peers` meets its contract: the places passed are marked.
+use Rattle.sends.specs.Sends.{peers_of}
+use Rattle.base.proofs.Lists.{marked_to, marked_turn}
+use Rattle.base.specs.Lists.{tabulate}
+use borrow.Author.Rules.{rules}
+use native.Mathlib.Omega.{arith}
+use lib.Dec.{eqb}
+use mathlib.Core.Bool.{not}
+use mathlib.Core.Path.{◌≡◌, refl}
+use Prim.Native.Nat.{◌≤◌, ◌-◌}
+use Rattle.sends.proofs.peers.Given as goal
+
+abbrev pub invariant-loop-pid : goal.invariant-loop-pid
+invariant-loop-pid l = (l.pid ≤ l.end) × (l.end ≤ 7) × (l.marks ≡ marked_to 7 l.pid (λ p. not (eqb p l.own)))
+
+abbrev pub decreases-loop-pid : goal.decreases-loop-pid
+decreases-loop-pid l = l.end - l.pid
