@@ -59,6 +59,7 @@ fn place_test(t: PlaceTest, pid: u64, d: Depot) -> bool
 }
 
 // Whether some depot's place, 1 to depots, passes the test.
+#[tactic(auto, unfolding(hire_book::specs::Below::any_below, crate::specs::Places::any_place))]
 pub fn any_place(l: LeaderState, depots: u64, t: PlaceTest) -> bool
     requires { depots ≤ max_depots }
     ensures { result ≡ any_place (place_test t) depots l }
