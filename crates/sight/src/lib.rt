@@ -39,6 +39,7 @@ fn at(s: &[u64], i: usize) -> u64
 }
 
 // Whether putting the suffix from `start` on changes place i of the log.
+#[tactic(auto, unfolding(crate::specs::Sight::changes_at))]
 fn changes_at(log: &[u64], start: usize, suffix: &[u64], i: usize) -> bool
     ensures { result ≡ changes_at log.now start suffix.now i }
 {
@@ -53,6 +54,7 @@ fn changes_at(log: &[u64], start: usize, suffix: &[u64], i: usize) -> bool
 }
 
 // The first place below `len` that the suffix changes, `len` where it changes none.
+#[tactic(auto, unfolding(crate::specs::Sight::first_change))]
 pub fn first_change(log: &[u64], len: usize, start: usize, suffix: &[u64]) -> usize
     ensures { result ≡ first_change log.now len start suffix.now }
 {
@@ -118,6 +120,7 @@ pub fn brought_change(sync: PromiseSync, log: &[u64], len: usize, entries: &[u64
     }
 }
 
+#[tactic(auto, unfolding(crate::specs::Sight::accdec_at))]
 fn accdec_at(row: Row, len: usize, at: usize) -> bool
     ensures { result ≡ accdec_at row len at }
 {
@@ -132,6 +135,7 @@ fn accdec_at(row: Row, len: usize, at: usize) -> bool
     m.is_accept_decide()
 }
 
+#[tactic(auto, unfolding(crate::specs::Sight::accepted_at))]
 fn accepted_at(row: Row, len: usize, at: usize) -> bool
     ensures { result ≡ accepted_at row len at }
 {
@@ -165,6 +169,7 @@ fn accepted_on(row: Row, len: usize, meta: AcceptedMeta) -> bool
 }
 
 // A mark for each place: the AcceptDecide that is remembered of the depot there still waits.
+#[tactic(auto, unfolding(base::specs::Lists::tabulate, crate::specs::Sight::accdec_marks))]
 pub fn accdec_marks(c: Configuration, r: Record, row: Row) -> [bool; 7]
     requires { c.depots ≤ max_depots }
     ensures { result ≡ accdec_marks c r row }
@@ -192,6 +197,7 @@ pub fn accepted_mark(r: Record, row: Row) -> bool
 }
 
 // How many entries the first `len` messages of the row carry: what a record that is not broken has fits the store.
+#[tactic(auto, unfolding(hire_book::specs::Below::sum_below, crate::specs::Sight::queue_entries))]
 pub fn queue_entries(row: Row, len: usize) -> usize
     requires len_le_max_messages { len ≤ max_messages }
     requires len_bound { queue_entries row len ≤ max_store }
