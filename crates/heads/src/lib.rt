@@ -18,6 +18,7 @@ pub enum HeadTest {
     Foreign(Configuration),
 }
 
+#[tactic(auto, unfolding(crate::specs::Heads::outside))]
 fn outside(start: usize, count: usize) -> bool
     ensures { result ≡ outside start count }
 {
@@ -30,6 +31,7 @@ fn outside(start: usize, count: usize) -> bool
     MAX_STORE - start < count
 }
 
+#[tactic(auto, unfolding(crate::specs::Heads::overlap))]
 fn overlap(a: usize, n: usize, b: usize, m: usize) -> bool
     ensures { result ≡ overlap a n b m }
 {
@@ -59,6 +61,7 @@ fn head_test(t: HeadTest, h: Head) -> bool
 }
 
 // Whether some head of the first `len` passes the test.
+#[tactic(auto, unfolding(hire_book::specs::Below::any_below, crate::specs::Heads::any_head))]
 pub fn any_head(row: Row, len: usize, t: HeadTest) -> bool
     requires { len ≤ max_messages }
     ensures { result ≡ any_head (head_test t) row len }
@@ -75,6 +78,7 @@ pub fn any_head(row: Row, len: usize, t: HeadTest) -> bool
 }
 
 // Whether the entries of two of the first `len` heads overlap.
+#[tactic(auto, unfolding(hire_book::specs::Below::any_below, crate::specs::Heads::any_overlap))]
 pub fn any_overlap(row: Row, len: usize) -> bool
     requires { len ≤ max_messages }
     ensures { result ≡ any_overlap row len }
@@ -91,6 +95,7 @@ pub fn any_overlap(row: Row, len: usize) -> bool
 }
 
 // Whether some entry of the first `len` heads is above its limit.
+#[tactic(auto, unfolding(hire_book::specs::Below::any_below, crate::specs::Heads::any_head))]
 pub fn any_head_above(row: Row, len: usize, store: &[u64]) -> bool
     requires { len ≤ max_messages }
     ensures { result ≡ any_head (head_above store.now) row len }
