@@ -59,6 +59,7 @@ fn best_sync(r: Record) -> HeldSync
 }
 
 // A kept entry above its limit. Cells past a length are not read.
+#[tactic(auto, unfolding(crate::specs::Broken::kept_above))]
 fn kept_above(r: Record, row: Row, log: &[u64], cached: &[u64], best: &[u64], store: &[u64]) -> bool
     requires { r.outgoing ≤ max_messages }
     ensures { result ≡ kept_above r row log.now cached.now best.now store.now }
@@ -81,6 +82,7 @@ fn kept_above(r: Record, row: Row, log: &[u64], cached: &[u64], best: &[u64], st
     heads::any_head_above(row, r.outgoing, store)
 }
 
+#[tactic(auto, unfolding(crate::specs::Broken::over_limit))]
 fn over_limit(r: Record) -> bool
     ensures { result ≡ over_limit r }
 {
@@ -101,6 +103,7 @@ fn meta_past(len: usize, m: AcceptedMeta) -> bool
 }
 
 // A remembered position at or past the queue's end.
+#[tactic(auto, unfolding(crate::specs::Broken::position_past))]
 fn position_past(c: Configuration, r: Record) -> bool
     requires { c.depots ≤ max_depots }
     ensures { result ≡ position_past c r }
@@ -115,6 +118,7 @@ fn position_past(c: Configuration, r: Record) -> bool
 }
 
 // A head whose entries lie outside the store or overlap another's.
+#[tactic(auto, unfolding(crate::specs::Broken::head_off))]
 fn head_off(r: Record, row: Row) -> bool
     requires { r.outgoing ≤ max_messages }
     ensures { result ≡ head_off r row }
@@ -135,6 +139,7 @@ fn held_past(sync: HeldSync) -> bool
 }
 
 // A held sync ending past the log's limit.
+#[tactic(auto, unfolding(crate::specs::Broken::sync_past))]
 fn sync_past(r: Record) -> bool
     ensures { result ≡ sync_past r }
 {
@@ -147,6 +152,7 @@ fn sync_past(r: Record) -> bool
 }
 
 // A Leader whose ballot's pid is not its own.
+#[tactic(auto, unfolding(crate::specs::Broken::leader_off))]
 fn leader_off(c: Configuration, r: Record) -> bool
     ensures { result ≡ leader_off c r }
 {
@@ -179,6 +185,7 @@ fn meta_foreign(c: Configuration, m: AcceptedMeta) -> bool
 }
 
 // A kept nonzero ballot whose pid is no depot.
+#[tactic(auto, unfolding(crate::specs::Broken::kept_foreign))]
 fn kept_foreign(c: Configuration, r: Record, row: Row) -> bool
     requires depots_le_max_depots { c.depots ≤ max_depots }
     requires outgoing_le_max_messages { r.outgoing ≤ max_messages }
@@ -219,6 +226,7 @@ fn message_default(m: CachedMessage) -> bool
 }
 
 // What record and row alone say.
+#[tactic(auto, unfolding(crate::specs::Broken::state_broken))]
 fn state_broken(c: Configuration, r: Record, row: Row) -> bool
     requires depots_le_max_depots { c.depots ≤ max_depots }
     requires outgoing_le_max_messages { r.outgoing ≤ max_messages }
@@ -249,6 +257,7 @@ fn state_broken(c: Configuration, r: Record, row: Row) -> bool
 }
 
 // Refusal 2. The queue's length is tested before its heads are read.
+#[tactic(auto, unfolding(crate::specs::Broken::record_broken, crate::specs::Broken::over_limit))]
 pub fn broken(
     c: Configuration,
     r: Record,
