@@ -28,6 +28,7 @@ fn log_from(s: SequencePaxos, start: usize) -> HeldSync
 }
 
 // What the leader is missing: after its decided index where the own round is higher, after its accepted index in the same round.
+#[tactic(auto, unfolding(crate::specs::Follower::promised_sync))]
 fn promised_sync(s: SequencePaxos, prep: Prepare) -> HeldSync
     requires { Room s }
     ensures value { result ≡ promised_sync prep s }
@@ -143,6 +144,7 @@ fn send_promise(s: SequencePaxos, to: u64, p: CachedPromise, source: Source) -> 
     })
 }
 
+#[tactic(auto, unfolding(crate::specs::Follower::cache_promise))]
 fn cache_promise(s: SequencePaxos, sync: HeldSync) -> SequencePaxos
     requires { Room s }
     ensures value { result ≡ cache_promise sync s }
@@ -154,6 +156,7 @@ fn cache_promise(s: SequencePaxos, sync: HeldSync) -> SequencePaxos
     s1.set_writes(w.with_cached(kept_sync(sync)))
 }
 
+#[tactic(auto, unfolding(crate::specs::Follower::tell_promise))]
 fn tell_promise(s: SequencePaxos, from: u64, sync: HeldSync) -> SequencePaxos
     requires room { Room s }
     requires sync_bound { count_of sync ≤ 1024 }
@@ -166,6 +169,7 @@ fn tell_promise(s: SequencePaxos, from: u64, sync: HeldSync) -> SequencePaxos
     send_promise(s2, from, p, log_source(sync))
 }
 
+#[tactic(auto, unfolding(crate::specs::Follower::promise_to))]
 fn promise_to(s: SequencePaxos, n: Ballot) -> SequencePaxos
     requires { Room s }
     ensures value { result ≡ promise_to n s }
@@ -176,6 +180,7 @@ fn promise_to(s: SequencePaxos, n: Ballot) -> SequencePaxos
     s2.set_current_seq_num(SequenceNumber::default())
 }
 
+#[tactic(auto, unfolding(crate::specs::Follower::prepare_taken))]
 fn prepare_taken(s: SequencePaxos, prep: Prepare, from: u64) -> SequencePaxos
     requires { Room s }
     ensures value { result ≡ prepare_taken prep from s }
@@ -186,6 +191,7 @@ fn prepare_taken(s: SequencePaxos, prep: Prepare, from: u64) -> SequencePaxos
     tell_promise(s1, from, sync)
 }
 
+#[tactic(auto, unfolding(crate::specs::Follower::handle_prepare))]
 pub fn handle_prepare(s: SequencePaxos, prep: Prepare, from: u64) -> SequencePaxos
     requires { Room s }
     ensures value { result ≡ handle_prepare prep from s }
@@ -239,6 +245,7 @@ fn resend_promise(s: SequencePaxos, p: CachedPromise) -> SequencePaxos
     send_promise(s, n.pid, p, cached_source(sync))
 }
 
+#[tactic(auto, unfolding(crate::specs::Follower::resend_messages_follower))]
 pub fn resend_messages_follower(s: SequencePaxos) -> SequencePaxos
     requires room { Room s }
     requires few_cached { few_cached s.cached_promise_message.message }

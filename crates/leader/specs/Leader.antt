@@ -1,7 +1,6 @@
 -- What a leader does with each event (leader.rs; docs/RULES.md, R9). Each definition takes the box last. Most are named like the function that meets them
 -- (handle_leader: handle_leader); each contract in src/ cites its own.
-use Rattle.std.specs.Prelude.{ℕ, ◌+◌, ◌≤◌, Bool, true, false, cond, ltb, eqb}
-use Rattle.base.specs.Limits.{max_log}
+use Rattle.std.specs.Prelude.{ℕ, Bool, true, false, cond, ltb, eqb}
 use Rattle.ballot.specs.Ballot.{above, same}
 use Rattle.ballot.specs.declared.Ballot.{Ballot}
 use Rattle.leader_state.specs.declared.PromiseMetaData.{PromiseMetaData}

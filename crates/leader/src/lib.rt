@@ -32,6 +32,7 @@ fn for_preparable(s: SequencePaxos, what: Each) -> SequencePaxos
     sends::send_each(s, what, l.get_preparable_peers(s.config))
 }
 
+#[tactic(auto, unfolding(crate::specs::Leader::new_leader))]
 fn new_leader(s: SequencePaxos, n: Ballot) -> SequencePaxos
     requires { Room s }
     ensures value { result ≡ new_leader n s }
@@ -43,6 +44,7 @@ fn new_leader(s: SequencePaxos, n: Ballot) -> SequencePaxos
 }
 
 // The own promise goes into the leader's record; it never completes a read quorum by itself.
+#[tactic(auto, unfolding(crate::specs::Leader::own_promise))]
 fn own_promise(s: SequencePaxos) -> SequencePaxos
     requires { Room s }
     ensures value { result ≡ own_promise s }
@@ -62,6 +64,7 @@ fn own_promise(s: SequencePaxos) -> SequencePaxos
     s.set_leader_state(kept.state)
 }
 
+#[tactic(auto, unfolding(crate::specs::Leader::become_leader))]
 fn become_leader(s: SequencePaxos, n: Ballot) -> SequencePaxos
     requires { Room s }
     ensures value { result ≡ become_leader n s }
@@ -83,6 +86,7 @@ fn become_follower(s: SequencePaxos) -> SequencePaxos
     s.set_state(Role::Follower, phase)
 }
 
+#[tactic(auto, unfolding(crate::specs::Leader::handle_leader))]
 pub fn handle_leader(s: SequencePaxos, n: Ballot) -> SequencePaxos
     requires { Room s }
     ensures value { result ≡ handle_leader n s }
@@ -104,6 +108,7 @@ pub fn handle_leader(s: SequencePaxos, n: Ballot) -> SequencePaxos
 }
 
 // The depot's promise and its remembered AcceptDecide are taken back, and it is prepared again.
+#[tactic(auto, unfolding(crate::specs::Leader::prepare_again))]
 fn prepare_again(s: SequencePaxos, from: u64) -> SequencePaxos
     requires room { Room s }
     requires own_place { own_place from }
@@ -116,6 +121,7 @@ fn prepare_again(s: SequencePaxos, from: u64) -> SequencePaxos
     sends::send_prepare(s2, from)
 }
 
+#[tactic(auto, unfolding(crate::specs::Leader::handle_prepare_req))]
 pub fn handle_preparereq(s: SequencePaxos, n: Ballot, from: u64) -> SequencePaxos
     requires room { Room s }
     requires own_place { own_place from }
@@ -154,6 +160,7 @@ fn own_accepted(s: SequencePaxos) -> SequencePaxos
     set_accepted_idx(s, c.pid, s.internal_storage.accepted_idx)
 }
 
+#[tactic(auto, unfolding(crate::specs::Leader::accept_entries_leader))]
 fn accept_entries_leader(s: SequencePaxos, count: usize) -> SequencePaxos
     requires room { Room s }
     requires count_bound { s.internal_storage.accepted_idx + count ≤ 1024 }
@@ -167,6 +174,7 @@ fn accept_entries_leader(s: SequencePaxos, count: usize) -> SequencePaxos
 }
 
 // A proposal, local or forwarded, of `count` given entries.
+#[tactic(auto, unfolding(crate::specs::Leader::handle_forwarded_proposal))]
 pub fn handle_forwarded_proposal(s: SequencePaxos, count: usize) -> SequencePaxos
     requires room { Room s }
     requires count_bound { s.internal_storage.accepted_idx + count ≤ 1024 }
@@ -220,6 +228,7 @@ fn change_of(s: SequencePaxos, brought: bool) -> usize
     sight.held_change
 }
 
+#[tactic(auto, unfolding(crate::specs::Leader::sync_held))]
 fn sync_held(s: SequencePaxos, x: LogSync, brought: bool, highest: usize) -> SequencePaxos
     requires { Room s }
     ensures value { result ≡ sync_held x brought highest s }
@@ -236,6 +245,7 @@ fn sync_held(s: SequencePaxos, x: LogSync, brought: bool, highest: usize) -> Seq
 }
 
 // The best promise's sync goes on the log, where there is one: the one brought, or the one held.
+#[tactic(auto, unfolding(crate::specs::Leader::sync_with_best))]
 fn sync_with_best(s: SequencePaxos, brought: bool) -> SequencePaxos
     requires { Room s }
     ensures value { result ≡ sync_with_best brought s }
@@ -260,6 +270,7 @@ fn sync_taken(s: SequencePaxos) -> SequencePaxos
     s.set_leader_state(l.take_max_promise_sync())
 }
 
+#[tactic(auto, unfolding(crate::specs::Leader::handle_majority_promises))]
 fn handle_majority_promises(s: SequencePaxos, brought: bool) -> SequencePaxos
     requires { Room s }
     ensures value { result ≡ handle_majority_promises brought s }
@@ -283,6 +294,7 @@ fn held_length(sync: HeldSync) -> BestOp
 }
 
 // The entries of a sync that came with the new best promise are kept in its buffer.
+#[tactic(auto, unfolding(leader_state::specs::Promises::beats))]
 fn keep_sync(s: SequencePaxos, beats: bool, sync: HeldSync) -> SequencePaxos
     requires { Room s }
     ensures value { result ≡ keep_sync beats sync s }
@@ -296,6 +308,7 @@ fn keep_sync(s: SequencePaxos, beats: bool, sync: HeldSync) -> SequencePaxos
     s
 }
 
+#[tactic(auto, unfolding(crate::specs::Leader::handle_promise_prepare))]
 fn handle_promise_prepare(s: SequencePaxos, m: PromiseMetaData, sync: HeldSync) -> SequencePaxos
     requires room { Room s }
     requires own_place { own_place m.pid }
@@ -312,6 +325,7 @@ fn handle_promise_prepare(s: SequencePaxos, m: PromiseMetaData, sync: HeldSync) 
     keep_sync(s1, beats, sync)
 }
 
+#[tactic(auto, unfolding(crate::specs::Leader::handle_promise_accept))]
 fn handle_promise_accept(s: SequencePaxos, m: PromiseMetaData) -> SequencePaxos
     requires room { Room s }
     requires own_place { own_place m.pid }
@@ -334,6 +348,7 @@ fn brings_past(sync: HeldSync) -> bool
 }
 
 // A Promise of ballot n, as its depot's report m, with the sync that it brings.
+#[tactic(auto, unfolding(crate::specs::Leader::handle_promise))]
 pub fn handle_promise(
     s: SequencePaxos,
     n: Ballot,
@@ -392,6 +407,7 @@ fn promise_accept_fit(s: SequencePaxos, m: PromiseMetaData, sync: HeldSync) -> S
     handle_promise_accept(s, m)
 }
 
+#[tactic(auto, unfolding(crate::specs::Leader::newly_chosen))]
 fn newly_chosen(s: SequencePaxos, idx: usize) -> bool
     requires { Room s }
     ensures { result ≡ newly_chosen idx s }
@@ -403,6 +419,7 @@ fn newly_chosen(s: SequencePaxos, idx: usize) -> bool
     false
 }
 
+#[tactic(auto, unfolding(crate::specs::Leader::decide_if_chosen))]
 fn decide_if_chosen(s: SequencePaxos, idx: usize) -> SequencePaxos
     requires { Room s }
     ensures value { result ≡ decide_if_chosen idx s }
@@ -415,6 +432,7 @@ fn decide_if_chosen(s: SequencePaxos, idx: usize) -> SequencePaxos
     s
 }
 
+#[tactic(auto, unfolding(crate::specs::Leader::accepted_taken))]
 fn accepted_taken(s: SequencePaxos, idx: usize, from: u64) -> SequencePaxos
     requires room { Room s }
     requires own_place { own_place from }
@@ -443,6 +461,7 @@ fn accepted_in(s: SequencePaxos, at: Standing, idx: usize, from: u64) -> Sequenc
     }
 }
 
+#[tactic(auto, unfolding(crate::specs::Leader::handle_accepted))]
 pub fn handle_accepted(s: SequencePaxos, n: Ballot, accepted_idx: usize, from: u64) -> SequencePaxos
     requires room { Room s }
     requires own_place { own_place from }
@@ -467,6 +486,7 @@ fn lost_promise(s: SequencePaxos, from: u64) -> SequencePaxos
     s.set_leader_state(l.lost_promise(from))
 }
 
+#[tactic(auto, unfolding(crate::specs::Leader::handle_not_accepted))]
 pub fn handle_notaccepted(s: SequencePaxos, n: Ballot, from: u64) -> SequencePaxos
     requires room { Room s }
     requires own_place { own_place from }
@@ -485,6 +505,7 @@ pub fn handle_notaccepted(s: SequencePaxos, n: Ballot, from: u64) -> SequencePax
     s
 }
 
+#[tactic(auto, unfolding(crate::specs::Leader::resend_messages_leader))]
 pub fn resend_messages_leader(s: SequencePaxos) -> SequencePaxos
     requires { Room s }
     ensures value { result ≡ resend_messages_leader s }

@@ -15,6 +15,7 @@ pub fn to_recover(s: SequencePaxos) -> SequencePaxos
     s.set_state(Role::Follower, Phase::Recover)
 }
 
+#[tactic(auto, unfolding(crate::specs::Reconnect::left_leader))]
 fn left_leader(s: SequencePaxos, pid: u64) -> SequencePaxos
     requires { Room s }
     ensures value { result ≡ left_leader pid s }
@@ -28,6 +29,7 @@ fn left_leader(s: SequencePaxos, pid: u64) -> SequencePaxos
     s
 }
 
+#[tactic(auto, unfolding(crate::specs::Reconnect::reconnected_of))]
 pub fn reconnected(s: SequencePaxos, pid: u64) -> SequencePaxos
     requires { Room s }
     ensures value { result ≡ reconnected_of pid s }
