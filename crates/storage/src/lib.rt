@@ -30,6 +30,7 @@ pub fn part(entries: &[u64], from: usize, n: usize) -> &[u64]
 }
 
 // The suffix over the part's start; the rest of the part as found.
+#[tactic(auto, unfolding(base::specs::Lists::over))]
 pub fn write_suffix(part: &mut [u64], suffix: &[u64])
     requires { length suffix.now ≤ length part.old }
     ensures { part.new ≡ over suffix.now part.old }
@@ -85,6 +86,7 @@ fn write_op(log: &mut [u64], len: usize, op: LogOp, given: &[u64], held: &[u64])
 }
 
 // The operation, and then the first `kept` of the buffered proposals at the end that it leaves.
+#[tactic(auto, unfolding(crate::specs::Storage::log_after))]
 pub fn write_log(
     log: &mut [u64],
     len: usize,
