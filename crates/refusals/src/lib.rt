@@ -11,6 +11,7 @@ use messages::{Event, Row};
 use quorum::Configuration;
 use record::Record;
 
+#[tactic(auto, unfolding(crate::specs::Refusals::lengths_off))]
 fn lengths_off(log: usize, cached: usize, best: usize, store: usize, book: usize) -> bool
     ensures { result ≡ lengths_off log cached best store book }
 {
@@ -30,6 +31,7 @@ fn lengths_off(log: usize, cached: usize, best: usize, store: usize, book: usize
 }
 
 // Refusal 1.
+#[tactic(auto, unfolding(crate::specs::Refusals::wrong_call))]
 fn wrong_call(
     c: Configuration,
     log: usize,
@@ -47,6 +49,7 @@ fn wrong_call(
 }
 
 // The first of the refusals that are tested before a step is decided; 0 where none applies.
+#[tactic(auto, unfolding(crate::specs::Refusals::refusal_of))]
 pub fn refusal(
     c: Configuration,
     r: Record,
