@@ -1,8 +1,11 @@
 // Reads entries from standard input, one decimal a line, and writes the report of their history to standard output.
 #![tactic(auto)]
 
-use libc::{STDERR_FILENO, STDIN_FILENO, STDOUT_FILENO};
 use report::Reader;
+use std::io::Read;
+
+// How many bytes a turn of reading asks for.
+const PART: usize = 65_536;
 
 // What a turn of reading leaves: the reader, and whether there may be more to read.
 #[derive(Clone, Copy)]
@@ -13,35 +16,33 @@ struct Turn {
 }
 
 // Reads once, and feeds what came.
-fn read_some(reader: Reader, book: &mut [u64]) -> Turn {
-    let mut part = io::large_buffer();
-    let got = libc::read(STDIN_FILENO, &mut part);
-    if got < 0 {
-        return Turn {
+fn read_some(input: &mut impl Read, reader: Reader, book: &mut [u64]) -> Turn {
+    let mut part = [0u8; PART];
+    match input.read(&mut part) {
+        Err(_) => Turn {
             reader,
             more: false,
             failed: true,
-        };
-    }
-    if got == 0 {
-        return Turn {
+        },
+        Ok(0) => Turn {
             reader,
             more: false,
             failed: false,
-        };
-    }
-    let n = io::count(got, &part);
-    let fed = report::feed(reader, &part[..n], book);
-    let next = fed.reader;
-    Turn {
-        reader: next,
-        more: fed.answer == 0,
-        failed: fed.answer != 0,
+        },
+        Ok(n) => {
+            let fed = report::feed(reader, &part[..n], book);
+            let next = fed.reader;
+            Turn {
+                reader: next,
+                more: fed.answer == 0,
+                failed: fed.answer != 0,
+            }
+        }
     }
 }
 
 // A proved loop has to end, and nothing says that the input does: the turns are counted down from a number that no run uses up.
-fn read_all(book: &mut [u64]) -> Turn {
+fn read_all(input: &mut impl Read, book: &mut [u64]) -> Turn {
     let mut turn = Turn {
         reader: Reader::fresh(),
         more: true,
@@ -50,31 +51,31 @@ fn read_all(book: &mut [u64]) -> Turn {
     let mut turns = u64::MAX;
     while turns > 0 && turn.more {
         let reader = turn.reader;
-        turn = read_some(reader, book);
+        turn = read_some(input, reader, book);
         turns -= 1;
     }
     turn
 }
 
-fn main() {
+// What went wrong, on standard error. The status stays 0 even where this cannot be written: bin/hire-report goes by the output.
+fn tell(rt: &impl Eprint, what: &str) {
+    let _ = eprintln!(rt; "hire-report: {what}");
+}
+
+fn main(rt: HostRuntime) {
     let mut book = [0u64; hire_book::BOOK];
     let mut out = [0u8; page::REPORT_BYTES];
-    let turn = read_all(&mut book);
+    let mut input = rt.reader();
+    let turn = read_all(&mut input, &mut book);
     if turn.failed {
-        io::write_all(
-            STDERR_FILENO,
-            b"hire-report: standard input cannot be read; no report is given\n",
-        );
+        tell(&rt, "standard input cannot be read; no report is given");
         return;
     }
     let reader = turn.reader;
     let done = report::finish(reader, &mut book, &mut out);
     let n = done.count;
-    let is_written = io::write_all(STDOUT_FILENO, &out[..n]);
-    if done.answer != 0 || !is_written {
-        io::write_all(
-            STDERR_FILENO,
-            b"hire-report: the report cannot be written\n",
-        );
+    let written = rt.write_all(&out[..n]);
+    if done.answer != 0 || written.is_err() {
+        tell(&rt, "the report cannot be written");
     }
 }

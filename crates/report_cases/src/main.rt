@@ -3,8 +3,8 @@
 
 ghost use Rattle.std.specs.Prelude.{◌≤◌, ◌<◌};
 
-use libc::STDOUT_FILENO;
 use report::Reader;
+use std::io;
 
 // The end of a part of `cut` bytes that starts at `at`, and no further than the input's end.
 fn part_end(at: usize, cut: usize, end: usize) -> usize
@@ -33,101 +33,104 @@ fn feed_all(input: &[u8], cut: usize, book: &mut [u64]) -> Reader {
     reader
 }
 
-fn write_report(input: &[u8], cut: usize) {
+fn write_report(rt: &impl Print, input: &[u8], cut: usize) -> io::Result<()> {
     let mut book = [0u64; hire_book::BOOK];
     let mut out = [0u8; page::REPORT_BYTES];
     let reader = feed_all(input, cut, &mut book);
     let done = report::finish(reader, &mut book, &mut out);
     let n = done.count;
-    io::write_all(STDOUT_FILENO, &out[..n]);
+    rt.write_all(&out[..n])
 }
 
-fn case(name: &[u8], input: &[u8]) {
-    io::write_all(STDOUT_FILENO, name);
-    write_report(input, 0);
-    write_report(input, 3);
-    write_report(input, 1);
+fn case(rt: &impl Print, name: &str, input: &[u8]) -> io::Result<()> {
+    println!(rt; "-- {name}")?;
+    write_report(rt, input, 0)?;
+    write_report(rt, input, 3)?;
+    write_report(rt, input, 1)
 }
 
-fn lines() {
-    case(b"-- no bytes\n", b"");
-    case(b"-- a lone line end\n", b"\n");
-    case(b"-- out and back\n", b"5127\n7431\n");
-    case(b"-- the last line end missing\n", b"5127\n7431");
+fn lines(rt: &impl Print) -> io::Result<()> {
+    case(rt, "no bytes", b"")?;
+    case(rt, "a lone line end", b"\n")?;
+    case(rt, "out and back", b"5127\n7431\n")?;
+    case(rt, "the last line end missing", b"5127\n7431")
 }
 
-fn later_lines() {
-    case(b"-- a second back\n", b"5127\n7431\n7431\n");
-    case(b"-- an empty line after the last\n", b"5127\n7431\n\n");
-    case(b"-- a bad line 3\n", b"5127\n7431\n12a\n7431\nb\n");
-    case(b"-- a bad last line with no line end\n", b"5127\n7431x");
+fn later_lines(rt: &impl Print) -> io::Result<()> {
+    case(rt, "a second back", b"5127\n7431\n7431\n")?;
+    case(rt, "an empty line after the last", b"5127\n7431\n\n")?;
+    case(rt, "a bad line 3", b"5127\n7431\n12a\n7431\nb\n")?;
+    case(rt, "a bad last line with no line end", b"5127\n7431x")
 }
 
-fn numbers() {
+fn numbers(rt: &impl Print) -> io::Result<()> {
     case(
-        b"-- leading zeros\n",
+        rt,
+        "leading zeros",
         b"005127\n0000000000000000000000000000007431\n0\n000\n",
-    );
-    case(b"-- the entry limit\n", b"33554431\n");
-    case(b"-- above the entry limit\n", b"33554432\n");
+    )?;
+    case(rt, "the entry limit", b"33554431\n")?;
+    case(rt, "above the entry limit", b"33554432\n")
 }
 
-fn large_numbers() {
-    case(b"-- ten times the entry limit\n", b"335544310\n");
-    case(b"-- above 64 bits\n", b"18446744073709551616\n");
+fn large_numbers(rt: &impl Print) -> io::Result<()> {
+    case(rt, "ten times the entry limit", b"335544310\n")?;
+    case(rt, "above 64 bits", b"18446744073709551616\n")?;
     case(
-        b"-- above 64 bits, in a last line with no line end\n",
+        rt,
+        "above 64 bits, in a last line with no line end",
         b"1\n18446744073709556743",
-    );
+    )
 }
 
-fn bytes() {
-    case(b"-- CR LF\n", b"5127\r\n7431\r\n");
-    case(b"-- a space before\n", b" 5127\n");
-    case(b"-- a space after\n", b"5127 \n");
-    case(b"-- a minus sign\n", b"-1\n");
+fn bytes(rt: &impl Print) -> io::Result<()> {
+    case(rt, "CR LF", b"5127\r\n7431\r\n")?;
+    case(rt, "a space before", b" 5127\n")?;
+    case(rt, "a space after", b"5127 \n")?;
+    case(rt, "a minus sign", b"-1\n")
 }
 
-fn other_bytes() {
-    case(b"-- the byte below 0\n", b"1\n/\n");
-    case(b"-- the byte above 9\n", b"1\n:\n");
-    case(b"-- byte 0\n", b"5127\n\0\n");
-    case(b"-- byte 255\n", b"5127\n\xff\n");
+fn other_bytes(rt: &impl Print) -> io::Result<()> {
+    case(rt, "the byte below 0", b"1\n/\n")?;
+    case(rt, "the byte above 9", b"1\n:\n")?;
+    case(rt, "byte 0", b"5127\n\0\n")?;
+    case(rt, "byte 255", b"5127\n\xff\n")
 }
 
-fn long_case(name: &[u8], input: &[u8]) {
-    io::write_all(STDOUT_FILENO, name);
-    write_report(input, 0);
-    write_report(input, 999);
-    write_report(input, 100);
+fn long_case(rt: &impl Print, name: &str, input: &[u8]) -> io::Result<()> {
+    println!(rt; "-- {name}")?;
+    write_report(rt, input, 0)?;
+    write_report(rt, input, 999)?;
+    write_report(rt, input, 100)
 }
 
 // A number of a thousand digits, and one with a thousand zeros before it.
-fn long() {
+fn long(rt: &impl Print) -> io::Result<()> {
     let mut digits = [b'9'; 1000];
-    long_case(b"-- a thousand digits\n", &digits);
+    long_case(rt, "a thousand digits", &digits)?;
     let mut zeros = [b'0'; 1000];
     zeros[999] = b'7';
-    long_case(b"-- a thousand digits that say 7\n", &zeros);
+    long_case(rt, "a thousand digits that say 7", &zeros)?;
     digits[0] = b'\n';
-    long_case(b"-- an empty line, then a long one\n", &digits);
+    long_case(rt, "an empty line, then a long one", &digits)
 }
 
 // Pumps 255, 10, 9, 0 out and back in that order: 65,535 days, 1, 10 and none, the last back on its out day; and pump 1, which stays away.
-fn rows() {
+fn rows(rt: &impl Print) -> io::Result<()> {
     case(
-        b"-- rows in rising order\n",
+        rt,
+        "rows in rising order",
         b"255\n33554431\n10\n778\n9\n5385\n0\n256\n1\n",
-    );
+    )
 }
 
-fn main() {
-    lines();
-    later_lines();
-    numbers();
-    large_numbers();
-    bytes();
-    other_bytes();
-    long();
-    rows();
+fn main(rt: HostRuntime) -> io::Result<()> {
+    lines(&rt)?;
+    later_lines(&rt)?;
+    numbers(&rt)?;
+    large_numbers(&rt)?;
+    bytes(&rt)?;
+    other_bytes(&rt)?;
+    long(&rt)?;
+    rows(&rt)
 }

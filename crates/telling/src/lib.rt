@@ -2,138 +2,135 @@
 #![tactic(auto)]
 
 use ballot::Ballot;
-use libc::STDOUT_FILENO;
 use messages::{
     AcceptDecide, AcceptSync, Accepted, Decide, PaxosMsg, Prepare, Promise, PromiseSync,
 };
 use paxos_box::{Phase, Role, State};
 use sequence::SequenceNumber;
+use std::io;
 
-pub fn say(text: &[u8]) {
-    io::write_all(STDOUT_FILENO, text);
+pub fn say(rt: &impl Print, text: &str) -> io::Result<()> {
+    rt.print(text)
 }
 
 // A text, then a number.
-pub fn say_number(text: &[u8], n: u64) {
-    say(text);
-    io::print_decimal(STDOUT_FILENO, n);
+pub fn say_number(rt: &impl Print, text: &str, n: u64) -> io::Result<()> {
+    print!(rt; "{text}{n}")
 }
 
 // Each entry after a space; nothing where there is none.
-pub fn say_entries(entries: &[u64]) {
-    if entries.len() == 0 {
-        return;
+pub fn say_entries(rt: &impl Print, entries: &[u64]) -> io::Result<()> {
+    if entries.is_empty() {
+        return Ok(());
     }
-    say(b" entries");
-    let mut i: usize = 0;
-    while i < entries.len() {
-        say_number(b" ", entries[i]);
-        i += 1;
+    say(rt, " entries")?;
+    for entry in entries {
+        say_number(rt, " ", *entry)?;
     }
+    Ok(())
 }
 
 // round.priority.pid
-pub fn say_ballot(text: &[u8], n: Ballot) {
-    say_number(text, n.n as u64);
-    say_number(b".", n.priority as u64);
-    say_number(b".", n.pid);
+pub fn say_ballot(rt: &impl Print, text: &str, n: Ballot) -> io::Result<()> {
+    say_number(rt, text, n.n as u64)?;
+    say_number(rt, ".", n.priority as u64)?;
+    say_number(rt, ".", n.pid)
 }
 
 // session.counter
-fn say_sequence(q: SequenceNumber) {
-    say_number(b" number ", q.session);
-    say_number(b".", q.counter);
+fn say_sequence(rt: &impl Print, q: SequenceNumber) -> io::Result<()> {
+    say_number(rt, " number ", q.session)?;
+    say_number(rt, ".", q.counter)
 }
 
-fn say_prepare(m: Prepare) {
-    say_ballot(b"Prepare ", m.n);
-    say_number(b" accepted ", m.accepted_idx as u64);
-    say_ballot(b" in ", m.n_accepted);
-    say_number(b" decided ", m.decided_idx as u64);
+fn say_prepare(rt: &impl Print, m: Prepare) -> io::Result<()> {
+    say_ballot(rt, "Prepare ", m.n)?;
+    say_number(rt, " accepted ", m.accepted_idx as u64)?;
+    say_ballot(rt, " in ", m.n_accepted)?;
+    say_number(rt, " decided ", m.decided_idx as u64)
 }
 
-fn say_sync(sync: PromiseSync) {
+fn say_sync(rt: &impl Print, sync: PromiseSync) -> io::Result<()> {
     match sync {
-        PromiseSync::Nothing => say(b" no sync"),
-        PromiseSync::From(start) => say_number(b" sync from ", start as u64),
+        PromiseSync::Nothing => say(rt, " no sync"),
+        PromiseSync::From(start) => say_number(rt, " sync from ", start as u64),
     }
 }
 
-fn say_promise(m: Promise) {
-    say_ballot(b"Promise ", m.n);
-    say_number(b" accepted ", m.accepted_idx as u64);
-    say_ballot(b" in ", m.n_accepted);
-    say_number(b" decided ", m.decided_idx as u64);
+fn say_promise(rt: &impl Print, m: Promise) -> io::Result<()> {
+    say_ballot(rt, "Promise ", m.n)?;
+    say_number(rt, " accepted ", m.accepted_idx as u64)?;
+    say_ballot(rt, " in ", m.n_accepted)?;
+    say_number(rt, " decided ", m.decided_idx as u64)?;
     let sync = m.log_sync;
-    say_sync(sync);
+    say_sync(rt, sync)
 }
 
-fn say_accept_sync(m: AcceptSync) {
-    say_ballot(b"AcceptSync ", m.n);
-    say_sequence(m.seq_num);
-    say_number(b" decided ", m.decided_idx as u64);
-    say_number(b" from ", m.sync_idx as u64);
+fn say_accept_sync(rt: &impl Print, m: AcceptSync) -> io::Result<()> {
+    say_ballot(rt, "AcceptSync ", m.n)?;
+    say_sequence(rt, m.seq_num)?;
+    say_number(rt, " decided ", m.decided_idx as u64)?;
+    say_number(rt, " from ", m.sync_idx as u64)
 }
 
-fn say_accept_decide(m: AcceptDecide) {
-    say_ballot(b"AcceptDecide ", m.n);
-    say_sequence(m.seq_num);
-    say_number(b" decided ", m.decided_idx as u64);
+fn say_accept_decide(rt: &impl Print, m: AcceptDecide) -> io::Result<()> {
+    say_ballot(rt, "AcceptDecide ", m.n)?;
+    say_sequence(rt, m.seq_num)?;
+    say_number(rt, " decided ", m.decided_idx as u64)
 }
 
-fn say_accepted(m: Accepted) {
-    say_ballot(b"Accepted ", m.n);
-    say_number(b" accepted ", m.accepted_idx as u64);
+fn say_accepted(rt: &impl Print, m: Accepted) -> io::Result<()> {
+    say_ballot(rt, "Accepted ", m.n)?;
+    say_number(rt, " accepted ", m.accepted_idx as u64)
 }
 
-fn say_decide(m: Decide) {
-    say_ballot(b"Decide ", m.n);
-    say_sequence(m.seq_num);
-    say_number(b" decided ", m.decided_idx as u64);
+fn say_decide(rt: &impl Print, m: Decide) -> io::Result<()> {
+    say_ballot(rt, "Decide ", m.n)?;
+    say_sequence(rt, m.seq_num)?;
+    say_number(rt, " decided ", m.decided_idx as u64)
 }
 
-pub fn say_message(m: PaxosMsg) {
+pub fn say_message(rt: &impl Print, m: PaxosMsg) -> io::Result<()> {
     match m {
-        PaxosMsg::PrepareReq(x) => say_ballot(b"PrepareReq ", x.n),
-        PaxosMsg::Prepare(x) => say_prepare(x),
-        PaxosMsg::Promise(x) => say_promise(x),
-        PaxosMsg::AcceptSync(x) => say_accept_sync(x),
-        PaxosMsg::AcceptDecide(x) => say_accept_decide(x),
-        PaxosMsg::Accepted(x) => say_accepted(x),
-        PaxosMsg::NotAccepted(x) => say_ballot(b"NotAccepted ", x.n),
-        PaxosMsg::Decide(x) => say_decide(x),
-        PaxosMsg::ProposalForward => say(b"ProposalForward"),
+        PaxosMsg::PrepareReq(x) => say_ballot(rt, "PrepareReq ", x.n),
+        PaxosMsg::Prepare(x) => say_prepare(rt, x),
+        PaxosMsg::Promise(x) => say_promise(rt, x),
+        PaxosMsg::AcceptSync(x) => say_accept_sync(rt, x),
+        PaxosMsg::AcceptDecide(x) => say_accept_decide(rt, x),
+        PaxosMsg::Accepted(x) => say_accepted(rt, x),
+        PaxosMsg::NotAccepted(x) => say_ballot(rt, "NotAccepted ", x.n),
+        PaxosMsg::Decide(x) => say_decide(rt, x),
+        PaxosMsg::ProposalForward => say(rt, "ProposalForward"),
     }
 }
 
-fn say_role(role: Role) {
+fn say_role(rt: &impl Print, role: Role) -> io::Result<()> {
     match role {
-        Role::Follower => say(b"Follower"),
-        Role::Leader => say(b"Leader"),
+        Role::Follower => say(rt, "Follower"),
+        Role::Leader => say(rt, "Leader"),
     }
 }
 
-fn say_phase(phase: Phase) {
+fn say_phase(rt: &impl Print, phase: Phase) -> io::Result<()> {
     match phase {
-        Phase::Prepare => say(b" Prepare"),
-        Phase::Accept => say(b" Accept"),
-        Phase::Recover => say(b" Recover"),
-        Phase::None => say(b" None"),
+        Phase::Prepare => say(rt, " Prepare"),
+        Phase::Accept => say(rt, " Accept"),
+        Phase::Recover => say(rt, " Recover"),
+        Phase::None => say(rt, " None"),
     }
 }
 
-pub fn say_state(state: State) {
+pub fn say_state(rt: &impl Print, state: State) -> io::Result<()> {
     let role = state.role;
     let phase = state.phase;
-    say_role(role);
-    say_phase(phase);
+    say_role(rt, role)?;
+    say_phase(rt, phase)
 }
 
 // What a step answered: taken, or the number of the refusal.
-pub fn say_answer(no: u32) {
+pub fn say_answer(rt: &impl Print, no: u32) -> io::Result<()> {
     if no == 0 {
-        say(b": taken");
-        return;
+        return say(rt, ": taken");
     }
-    say_number(b": refused with ", no as u64);
+    say_number(rt, ": refused with ", no as u64)
 }
