@@ -1,11 +1,11 @@
 -- A ballot's words are read back as the ballot; a block of joined blocks is the block; one turn of a loop that writes blocks, and what is written in the end.
 use Prim.Native.Nat.{ℕ, zero, suc, ◌+◌, ◌*◌, ◌≤◌, ◌<◌}
-use mathlib.Core.Path.{◌≡◌, refl, sym, ap, ◌∙◌}
+use mathlib.Core.Path.{◌≡◌, refl, sym}
 use mathlib.Core.List.{List, [], ◌∷◌, ◌++◌, append_assoc, append-nil}
 use native.Mathlib.Omega.{arith}
 use native.Mathlib.Numerals.{add-one}
-use lib.ListN.{length, get_or, take, drop, replicate, length-append, length-drop, length-take, drop_of_length-le}
-use lib.Seq.{take-suc, take_at, take_all, drop_at, drop-drop, drop-append-add, length-take-le}
+use lib.ListN.{length, get_or, take, drop, replicate, length-append, drop_of_length-le}
+use lib.Seq.{take-suc, take_at, take_all, drop-append-add, length-take-le}
 use Rattle.base.specs.Lists.{over}
 use Rattle.storage.specs.Storage.{put_at}
 use Rattle.storage.proofs.Laws.{put-again, put-nothing}

@@ -14,6 +14,7 @@ pub const WORDS: usize = 16;
 pub const MOST_32: u64 = 0xffff_ffff;
 
 // Block i of the words; words past their end are 0.
+#[tactic(auto, unfolding(crate::specs::Blocks::block_at))]
 pub fn block(words: &[u64], i: usize) -> [u64; 16]
     requires { i ≤ max_messages }
     ensures { result ≡ block_at i words.now }
@@ -32,6 +33,7 @@ pub fn put_block(words: &mut [u64], i: usize, b: [u64; 16])
 }
 
 // Whether a word is above its most; a most of 0 stands for none.
+#[tactic(auto, unfolding(crate::specs::Blocks::over_most))]
 fn over_most(most: u64, w: u64) -> bool
     ensures { result ≡ over_most most w }
 {
@@ -42,6 +44,7 @@ fn over_most(most: u64, w: u64) -> bool
 }
 
 // Whether some word is above its most.
+#[tactic(auto, unfolding(hire_book::specs::Below::any_below, crate::specs::Blocks::above_most))]
 pub fn above_most(b: [u64; 16], most: [u64; 16]) -> bool
     ensures { result ≡ above_most most b }
 {
@@ -63,6 +66,7 @@ pub fn index(w: u64) -> usize
 }
 
 // A word of 32 bits; a larger one, which no block that means something has, is read as 0.
+#[tactic(auto, unfolding(crate::specs::Blocks::small))]
 fn small(w: u64) -> u32
     ensures { result ≡ small w }
 {
