@@ -36,6 +36,7 @@ fn not_accepted(s: SequencePaxos, n: Ballot) -> SequencePaxos
     })
 }
 
+#[tactic(auto, unfolding(crate::specs::Accepting::send_accepted))]
 fn push_accepted(s: SequencePaxos, n: Ballot, accepted_idx: usize, to: u64) -> SequencePaxos
     requires { Room s }
     ensures value { result ≡ send_accepted n accepted_idx to s }
@@ -52,6 +53,7 @@ fn push_accepted(s: SequencePaxos, n: Ballot, accepted_idx: usize, to: u64) -> S
 }
 
 // The sync is put on, and the buffered proposals are forwarded.
+#[tactic(auto, unfolding(crate::specs::Accepting::acceptsync_put))]
 fn acceptsync_put(s: SequencePaxos, m: AcceptSync, count: usize) -> SequencePaxos
     requires room { Room s }
     requires count_bound { m.sync_idx + count ≤ 512 }
@@ -73,6 +75,7 @@ fn acceptsync_put(s: SequencePaxos, m: AcceptSync, count: usize) -> SequencePaxo
     log_plan::forward_buffered_proposals(s2)
 }
 
+#[tactic(auto, unfolding(crate::specs::Accepting::following))]
 fn follow(s: SequencePaxos, q: SequenceNumber) -> SequencePaxos
     requires { Room s }
     ensures value { result ≡ following q s }
@@ -82,6 +85,7 @@ fn follow(s: SequencePaxos, q: SequenceNumber) -> SequencePaxos
     s1.set_current_seq_num(q)
 }
 
+#[tactic(auto, unfolding(crate::specs::Accepting::acceptsync_taken))]
 fn acceptsync_taken(s: SequencePaxos, m: AcceptSync, count: usize, from: u64) -> SequencePaxos
     requires { Room s }
     ensures value { result ≡ acceptsync_taken m count from s }
@@ -122,6 +126,7 @@ fn acceptsync_in(
 }
 
 // An AcceptSync with `count` entries of suffix given.
+#[tactic(auto, unfolding(crate::specs::Accepting::handle_acceptsync))]
 pub fn handle_acceptsync(s: SequencePaxos, m: AcceptSync, count: usize, from: u64) -> SequencePaxos
     requires { Room s }
     ensures value { result ≡ handle_acceptsync m count from s }
@@ -140,6 +145,7 @@ pub fn handle_acceptsync(s: SequencePaxos, m: AcceptSync, count: usize, from: u6
 }
 
 // The own counter can't be compared with one of the same session any more.
+#[tactic(auto, unfolding(crate::specs::Accepting::counter_at_top))]
 fn counter_at_top(s: SequencePaxos, q: SequenceNumber) -> bool
     ensures { result ≡ counter_at_top q s }
 {
@@ -173,6 +179,7 @@ fn at_if_same(n: Ballot, on: bool, x: AcceptedAt) -> AcceptedMeta
 }
 
 // The remembered Accepted, where it is of this ballot and an Accepted stands at its position.
+#[tactic(auto, unfolding(crate::specs::Accepting::latest_accepted))]
 fn get_latest_accepted_message(s: SequencePaxos, n: Ballot) -> AcceptedMeta
     ensures { result ≡ latest_accepted n s }
 {
@@ -196,6 +203,7 @@ fn raise_accepted(s: SequencePaxos, n: Ballot, at: usize, accepted_idx: usize) -
     })
 }
 
+#[tactic(auto, unfolding(crate::specs::Accepting::reply_accepted))]
 fn reply_accepted(s: SequencePaxos, n: Ballot, accepted_idx: usize) -> SequencePaxos
     requires { Room s }
     ensures value { result ≡ reply_accepted n accepted_idx s }
@@ -208,6 +216,7 @@ fn reply_accepted(s: SequencePaxos, n: Ballot, accepted_idx: usize) -> SequenceP
     }
 }
 
+#[tactic(auto, unfolding(crate::specs::Accepting::update_decided))]
 fn update_decided_idx(s: SequencePaxos, idx: usize) -> SequencePaxos
     requires { Room s }
     ensures value { result ≡ update_decided idx s }
@@ -220,6 +229,7 @@ fn update_decided_idx(s: SequencePaxos, idx: usize) -> SequencePaxos
     s
 }
 
+#[tactic(auto, unfolding(crate::specs::Accepting::acceptdecide_taken))]
 fn acceptdecide_taken(s: SequencePaxos, n: Ballot, decided: usize, count: usize) -> SequencePaxos
     requires room { Room s }
     requires count_bound { s.internal_storage.accepted_idx + count ≤ 512 }
@@ -232,6 +242,7 @@ fn acceptdecide_taken(s: SequencePaxos, n: Ballot, decided: usize, count: usize)
     reply_accepted(s2, n, len + count)
 }
 
+#[tactic(auto, unfolding(crate::specs::Accepting::acceptdecide_fit))]
 fn acceptdecide_fit(
     s: SequencePaxos,
     n: Ballot,
@@ -300,6 +311,7 @@ fn acceptdecide_in(
 }
 
 // An AcceptDecide with `count` entries given.
+#[tactic(auto, unfolding(crate::specs::Accepting::handle_acceptdecide))]
 pub fn handle_acceptdecide(
     s: SequencePaxos,
     n: Ballot,
@@ -322,6 +334,7 @@ pub fn handle_acceptdecide(
     }
 }
 
+#[tactic(auto, unfolding(crate::specs::Accepting::decide_taken))]
 fn decide_taken(s: SequencePaxos, n: Ballot, decided: usize) -> SequencePaxos
     requires { Room s }
     ensures value { result ≡ decide_taken n decided s }
@@ -364,6 +377,7 @@ fn decide_in_accept(s: SequencePaxos, n: Ballot, q: SequenceNumber, decided: usi
     s
 }
 
+#[tactic(auto, unfolding(crate::specs::Accepting::handle_decide))]
 pub fn handle_decide(
     s: SequencePaxos,
     n: Ballot,
