@@ -1,11 +1,11 @@
 -- No word of a machine's record is above its most.
-use Prim.Native.Nat.{ℕ, zero, suc, ◌+◌, ◌≤◌, ◌<◌}
-use mathlib.Core.Path.{◌≡◌, refl, sym, ◌∙◌}
-use mathlib.Core.Bool.{Bool, false}
-use mathlib.Core.List.{List, [], ◌∷◌, map}
+use Prim.Native.Nat.{ℕ, zero, suc, ◌≤◌, ◌<◌}
+use mathlib.Core.Path.{◌≡◌, refl}
+use mathlib.Core.Bool.{false}
+use mathlib.Core.List.{List, [], map}
 use native.Mathlib.Omega.{arith}
 use lib.Dec.{ltb}
-use lib.ListN.{length, get_or}
+use lib.ListN.{get_or}
 use borrow.Author.Tests.{le-ltb, ne_eqb}
 use Rattle.hire_book.specs.Below.{any_below}
 use Rattle.ballot.specs.declared.Ballot.{Ballot}
@@ -30,7 +30,7 @@ use Rattle.paxos_box.specs.declared.AcceptedMeta.TheVariants as meta
 use Rattle.paxos_box.specs.declared.CachedMessage.{CachedMessage}
 use Rattle.paxos_box.specs.declared.CachedMessage.TheVariants as cached
 use Rattle.record.specs.declared.Record.{Record}
-use Rattle.blocks.specs.Blocks.{word, over_most, above_most, most32, Narrow}
+use Rattle.blocks.specs.Blocks.{over_most, above_most, most32}
 use Rattle.tags.specs.Tags.{promise_tag, promise_meta, latest_tag, held_tag, role_tag, phase_tag, accepted_tag, accepted_at, cached_tag, cached_promise}
 use Rattle.layout_record.specs.Words.{record_count, standing_words, lead_words, best_words, cached_words, place_words, record_blocks}
 use Rattle.layout_record.specs.Kept.{NarrowStanding, NarrowLead, NarrowBest, NarrowCached, NarrowPlace, Kept}

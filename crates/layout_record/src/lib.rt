@@ -319,6 +319,7 @@ fn places_in(words: &[u64]) -> [Depot; 7]
     depots
 }
 
+#[tactic(auto, unfolding(crate::specs::Reading::leader_in))]
 fn leader_in(words: &[u64]) -> LeaderState
     ensures { result ≡ leader_in words.now }
 {
@@ -334,6 +335,7 @@ fn leader_in(words: &[u64]) -> LeaderState
 }
 
 // A record of the first block, the buffered proposals' cells and the other parts.
+#[tactic(auto, unfolding(crate::specs::Reading::record_with))]
 fn record_with(
     b: [u64; 16],
     entries: [u64; 16],
@@ -366,6 +368,7 @@ fn record_with(
 }
 
 // The record of words that mean one.
+#[tactic(auto, unfolding(crate::specs::Reading::record_of))]
 fn record_of(words: &[u64]) -> Record
     ensures { result ≡ record_of words.now }
 {
@@ -384,6 +387,7 @@ fn record_of(words: &[u64]) -> Record
 }
 
 // The most of each word of block i; 0 where it has none.
+#[tactic(auto, unfolding(crate::specs::Reading::record_most))]
 fn record_most(i: usize) -> [u64; 16]
     ensures { result ≡ record_most i }
 {
@@ -407,6 +411,7 @@ fn record_most(i: usize) -> [u64; 16]
 }
 
 // Whether the words mean no record: one of them is above its most.
+#[tactic(auto, unfolding(hire_book::specs::Below::any_below, crate::specs::Reading::no_record))]
 fn no_record(words: &[u64]) -> bool
     ensures { result ≡ no_record words.now }
 {
@@ -437,6 +442,7 @@ pub fn broken_record() -> Record
 }
 
 // The record that words mean; words that mean none mean a broken one.
+#[tactic(auto, unfolding(crate::specs::Reading::record_in))]
 pub fn read_record(words: &[u64]) -> Record
     ensures { result ≡ record_in words.now }
 {
