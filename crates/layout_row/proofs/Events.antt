@@ -1,5 +1,5 @@
 -- Reading an event, and a configuration, gives back what was written.
-use mathlib.Core.Path.{◌≡◌, refl, ap, ◌∙◌}
+use mathlib.Core.Path.{◌≡◌, refl}
 use mathlib.Core.Bool.{false}
 use lib.Dec.{ltb}
 use Rattle.quorum.specs.declared.Configuration.{Configuration}
@@ -7,9 +7,7 @@ use Rattle.quorum.specs.declared.Quorum.{Quorum}
 use Rattle.quorum.specs.declared.Quorum.TheVariants.{Majority, Flexible}
 use Rattle.messages.specs.declared.Event.{Event}
 use Rattle.messages.specs.declared.Event.TheVariants.{Message, Propose, Leader, Reconnect, Resend, Drain, Restart}
-use Rattle.blocks.specs.Blocks.{above_most}
-use Rattle.layout_row.specs.Fields.{message_of}
-use Rattle.layout_row.specs.Event.{event_pid, event_fields, event_kind, event_words, NarrowEvent, event_most, event_of, event_in, quorum_tag, quorum_read, quorum_write, configuration_words, quorum_of, configuration_in}
+use Rattle.layout_row.specs.Event.{event_pid, event_fields, event_kind, event_words, NarrowEvent, event_of, event_in, quorum_tag, quorum_read, quorum_write, configuration_words, quorum_of, configuration_in}
 use Rattle.layout_row.proofs.Fits.{kind-low, sync-low, event-fits}
 use Rattle.layout_row.proofs.Back.{message-back, fields_back}
 

@@ -1,5 +1,5 @@
 -- No word of a machine's head or event is above its most.
-use Prim.Native.Nat.{ℕ, ◌≤◌}
+use Prim.Native.Nat.{ℕ}
 use mathlib.Core.Path.{◌≡◌, refl}
 use mathlib.Core.Bool.{false}
 use lib.Dec.{ltb}
@@ -9,7 +9,7 @@ use Rattle.messages.specs.declared.PaxosMsg.{PaxosMsg}
 use Rattle.messages.specs.declared.PaxosMsg.TheVariants.{PrepareReq, Prepare, Promise, AcceptSync, AcceptDecide, Accepted, NotAccepted, Decide, ProposalForward}
 use Rattle.messages.specs.declared.PromiseSync.{PromiseSync}
 use Rattle.messages.specs.declared.PromiseSync.TheVariants.{Nothing, From}
-use Rattle.blocks.specs.Blocks.{word, over_most, above_most, most32, Narrow}
+use Rattle.blocks.specs.Blocks.{over_most, above_most, most32, Narrow}
 use Rattle.layout_row.specs.declared.Fields.{Fields}
 use Rattle.layout_row.specs.Fields.{sync_tag, fields_of}
 use Rattle.layout_row.specs.Row.{block_of, head_most}

@@ -145,6 +145,7 @@ fn promise_of(f: Fields) -> Promise
 }
 
 // The message that fields mean. A kind above its most, which no block that means something has, is read as the last.
+#[tactic(auto, unfolding(crate::specs::Fields::message_of))]
 fn message_of(f: Fields) -> PaxosMsg
     ensures { result ≡ message_of f }
 {
@@ -273,6 +274,7 @@ fn head_most() -> [u64; 16]
 }
 
 // Whether the words mean no row: some block of them means no head.
+#[tactic(auto, unfolding(hire_book::specs::Below::any_below, crate::specs::Row::no_row))]
 pub fn no_row(words: &[u64]) -> bool
     ensures { result ≡ no_row words.now }
 {
@@ -288,6 +290,7 @@ pub fn no_row(words: &[u64]) -> bool
 }
 
 // The row of words that mean one.
+#[tactic(auto, unfolding(crate::specs::Row::row_in))]
 pub fn read_row(words: &[u64]) -> Row
     ensures { result ≡ row_in words.now }
 {
@@ -333,6 +336,7 @@ fn unfit_from(from: u64) -> Event
 }
 
 // What happens, by its kind: from or to whom, and the message's fields.
+#[tactic(auto, unfolding(crate::specs::Event::event_of))]
 fn event_of(kind: u64, pid: u64, f: Fields) -> Event
     ensures { result ≡ event_of kind pid f }
 {
@@ -367,6 +371,7 @@ fn event_most() -> [u64; 16]
 }
 
 // The event of a block. A block that means none is an unfit message from the depot in word 0.
+#[tactic(auto, unfolding(crate::specs::Event::event_in))]
 pub fn event_in(b: [u64; 16]) -> Event
     ensures { result ≡ event_in b }
 {
@@ -391,6 +396,7 @@ fn quorum_of(tag: u64, read: u64, write: u64) -> Quorum
     Quorum::Majority(0)
 }
 
+#[tactic(auto, unfolding(crate::specs::Event::configuration_in))]
 pub fn configuration_in(b: [u64; 16]) -> Configuration
     ensures { result ≡ configuration_in b }
 {
