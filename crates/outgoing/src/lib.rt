@@ -70,6 +70,7 @@ fn end_of(row: Row, k: usize) -> usize
 }
 
 // The entries of the first heads, one after the other, over the start of another list.
+#[tactic(auto, unfolding(storage::specs::Storage::put_at))]
 fn gather(out: &mut [u64], store: &[u64], row: Row, len: usize)
     requires len_le_max_messages { len ≤ max_messages }
     requires heads_in_bounds { carried (take len row.heads) ≤ length out.old }
@@ -162,6 +163,7 @@ fn push(row: Row, store: &mut [u64], len: usize, to: u64, msg: PaxosMsg, entries
 }
 
 // The head at a position gets the decided index and counts the entries that join; the heads behind it start later.
+#[tactic(auto, unfolding(crate::specs::Packing::joined_row))]
 fn join_head(row: Row, len: usize, j: Join, n: usize) -> Row
     requires len_le_max_messages { len ≤ max_messages }
     requires at_lt_len { j.at < len }
@@ -201,6 +203,7 @@ fn join(row: Row, store: &mut [u64], len: usize, j: Join, entries: &[u64]) -> Ro
 }
 
 // An Accepted that waits gets another index.
+#[tactic(auto, unfolding(crate::specs::Packing::raised_row))]
 fn raise(row: Row, len: usize, r: Raise) -> Row
     requires { len ≤ max_messages }
     ensures { result ≡ raised_row len r row }
@@ -277,6 +280,7 @@ fn perform_from(
 }
 
 // All of them, in their order.
+#[tactic(auto, unfolding(crate::specs::Perform::perform_all))]
 fn perform_all(
     row: Row,
     store: &mut [u64],
@@ -308,6 +312,7 @@ fn perform_all(
 
 // What a plan sends is done to the queue, of which the first `len` heads wait. The log and the cached buffer are as the step leaves them, the
 // buffered proposals as found. The queue's new length is `len + sends.messages`.
+#[tactic(auto, unfolding(crate::specs::Perform::performed))]
 pub fn perform(
     row: Row,
     store: &mut [u64],
