@@ -8,6 +8,7 @@ use messages::{Event, PaxosMessage, PaxosMsg, Promise, PromiseSync};
 use paxos_box::{InternalStorage, Phase, Role, State};
 use quorum::{Configuration, FlexibleQuorum, Quorum};
 use sequence::SequenceNumber;
+use std::io;
 use telling::{say, say_number};
 
 // The ballot of depot 1 in its first round.
@@ -88,61 +89,68 @@ fn carried(s: Site, count: usize) -> usize {
     let mut at: usize = 0;
     while at < count {
         let h = s.head(at);
-        sum = std::num::wrapping_add_usize(sum, h.count);
+        sum = sum.wrapping_add(h.count);
         at += 1;
     }
     sum
 }
 
 // What a taken step leaves: the log's length, the buffered proposals, the queue.
-fn say_sizes(s: Site) {
+fn say_sizes(rt: &impl Print, s: Site) -> io::Result<()> {
     let node = s.node;
     let kept = node.internal_storage;
     let buffered = node.buffered_proposals;
-    say_number(b"; log ", kept.accepted_idx as u64);
-    say_number(b", buffered ", buffered.len as u64);
-    say_number(b", queue ", node.outgoing as u64);
-    say_number(b" with ", carried(s, node.outgoing) as u64);
+    say_number(rt, "; log ", kept.accepted_idx as u64)?;
+    say_number(rt, ", buffered ", buffered.len as u64)?;
+    say_number(rt, ", queue ", node.outgoing as u64)?;
+    say_number(rt, " with ", carried(s, node.outgoing) as u64)
 }
 
-fn say_found(before: Site, after: Site) {
+fn say_found(rt: &impl Print, before: Site, after: Site) -> io::Result<()> {
     if as_found::same_site(before, after) {
-        say(b", everything as found");
-        return;
+        return say(rt, ", everything as found");
     }
-    say(b", CHANGED");
+    say(rt, ", CHANGED")
 }
 
 // A step and what it answered. Refused, all that was lent is compared with what was found.
-fn case(name: &[u8], s: Site, e: Event, entries: &[u64]) -> Site {
-    say(name);
+fn case(rt: &impl Print, name: &str, s: Site, e: Event, entries: &[u64]) -> io::Result<Site> {
+    say(rt, name)?;
     let x = s.step(e, entries);
     let answer = x.answer;
     let site = x.site;
-    telling::say_answer(answer.no);
+    telling::say_answer(rt, answer.no)?;
     if answer.no == 0 {
-        say_sizes(site);
+        say_sizes(rt, site)?;
     } else {
-        say_found(s, site);
+        say_found(rt, s, site)?;
     }
-    say(b"\n");
-    site
+    say(rt, "\n")?;
+    Ok(site)
 }
 
-fn log_limit() {
+fn log_limit(rt: &impl Print) -> io::Result<()> {
     let s = leader_of(cluster::majority(3, 1), 511, 0);
     let one = [5127u64; 1];
     let two = [5127u64; 2];
-    case(b"log 511 and one entry", s, Event::Propose, &one);
-    case(b"log 511 and two entries", s, Event::Propose, &two);
+    case(rt, "log 511 and one entry", s, Event::Propose, &one)?;
+    case(rt, "log 511 and two entries", s, Event::Propose, &two)?;
+    Ok(())
 }
 
-fn buffer_limit() {
+fn buffer_limit(rt: &impl Print) -> io::Result<()> {
     let s = Site::fresh(cluster::majority(3, 1));
     let sixteen = [5127u64; 16];
     let one = [7431u64; 1];
-    let full = case(b"buffer 0 and sixteen entries", s, Event::Propose, &sixteen);
-    case(b"buffer 16 and one entry", full, Event::Propose, &one);
+    let full = case(
+        rt,
+        "buffer 0 and sixteen entries",
+        s,
+        Event::Propose,
+        &sixteen,
+    )?;
+    case(rt, "buffer 16 and one entry", full, Event::Propose, &one)?;
+    Ok(())
 }
 
 // So many steps of one event.
@@ -158,30 +166,33 @@ fn again(s: Site, e: Event, turns: usize) -> Site {
     site
 }
 
-fn queue_limits() {
+fn queue_limits(rt: &impl Print) -> io::Result<()> {
     let none = [0u64; 0];
     let s = Site::fresh(cluster::majority(3, 1));
     let s1 = again(s, Event::Reconnect(2), 63);
-    let s2 = case(b"queue 63 and a message", s1, Event::Reconnect(2), &none);
-    case(b"queue 64 and a message", s2, Event::Reconnect(2), &none);
+    let s2 = case(rt, "queue 63 and a message", s1, Event::Reconnect(2), &none)?;
+    case(rt, "queue 64 and a message", s2, Event::Reconnect(2), &none)?;
     let promise = promise_from(2, first_ballot());
     let t = again(leader_of(cluster::majority(3, 1), 512, 0), promise, 7);
     let t1 = case(
-        b"queue of 3,584 entries and an AcceptSync of 512",
+        rt,
+        "queue of 3,584 entries and an AcceptSync of 512",
         t,
         promise,
         &none,
-    );
+    )?;
     case(
-        b"queue of 4,096 entries and an AcceptSync of 512",
+        rt,
+        "queue of 4,096 entries and an AcceptSync of 512",
         t1,
         promise,
         &none,
-    );
+    )?;
+    Ok(())
 }
 
 // Seven depots, all of which must promise: the last Promise draws six AcceptSyncs of 512 entries.
-fn six_syncs() {
+fn six_syncs(rt: &impl Print) -> io::Result<()> {
     let none = [0u64; 0];
     let sizes = FlexibleQuorum {
         read_quorum_size: 7,
@@ -205,72 +216,82 @@ fn six_syncs() {
         from += 1;
     }
     case(
-        b"queue 0 and the Promise that draws six AcceptSyncs",
+        rt,
+        "queue 0 and the Promise that draws six AcceptSyncs",
         site,
         promise_from(7, n),
         &none,
-    );
+    )?;
+    Ok(())
 }
 
-fn refusals() {
+fn refusals(rt: &impl Print) -> io::Result<()> {
     let none = [0u64; 0];
     let above = [33_554_432u64; 1];
     let s = Site::fresh(cluster::majority(3, 1));
     case(
-        b"1: one depot",
+        rt,
+        "1: one depot",
         Site::fresh(cluster::majority(1, 1)),
         Event::Drain,
         &none,
-    );
+    )?;
     case(
-        b"2: decided index above the log's length",
+        rt,
+        "2: decided index above the log's length",
         decided_past(s),
         Event::Drain,
         &none,
-    );
+    )?;
     case(
-        b"3: a reconnect that names depot 0",
+        rt,
+        "3: a reconnect that names depot 0",
         s,
         Event::Reconnect(0),
         &none,
-    );
-    case(b"4: an entry above its limit", s, Event::Propose, &above);
+    )?;
+    case(rt, "4: an entry above its limit", s, Event::Propose, &above)?;
+    Ok(())
 }
 
-fn later_refusals() {
+fn later_refusals(rt: &impl Print) -> io::Result<()> {
     let none = [0u64; 0];
     let one = [5127u64; 1];
     let sixteen = [5127u64; 16];
     let full = leader_of(cluster::majority(3, 1), 512, 0);
     let top = leader_of(cluster::majority(3, 1), 0, base::LARGEST);
     let s = Site::fresh(cluster::majority(3, 1));
-    case(b"5: a full log and an entry", full, Event::Propose, &one);
+    case(rt, "5: a full log and an entry", full, Event::Propose, &one)?;
     case(
-        b"6: a full queue and a message",
+        rt,
+        "6: a full queue and a message",
         again(s, Event::Reconnect(2), 64),
         Event::Reconnect(3),
         &none,
-    );
+    )?;
     case(
-        b"7: a session at its top and a Promise",
+        rt,
+        "7: a session at its top and a Promise",
         top,
         promise_from(2, first_ballot()),
         &none,
-    );
+    )?;
     let waiting = s.step(Event::Propose, &sixteen);
     case(
-        b"8: a full buffer and an entry",
+        rt,
+        "8: a full buffer and an entry",
         waiting.site,
         Event::Propose,
         &one,
-    );
+    )?;
+    Ok(())
 }
 
-fn main() {
-    log_limit();
-    buffer_limit();
-    queue_limits();
-    six_syncs();
-    refusals();
-    later_refusals();
+fn main(rt: HostRuntime) -> io::Result<()> {
+    log_limit(&rt)?;
+    buffer_limit(&rt)?;
+    queue_limits(&rt)?;
+    six_syncs(&rt)?;
+    refusals(&rt)?;
+    later_refusals(&rt)
 }

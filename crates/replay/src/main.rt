@@ -3,7 +3,11 @@
 
 ghost use Rattle.std.specs.Prelude.{◌≡◌, length};
 
-use libc::{STDIN_FILENO, STDOUT_FILENO};
+use std::io;
+use std::io::Read;
+
+// How many bytes a turn of reading asks for.
+const PART: usize = 65_536;
 
 // The memory: everything lent to a step, one slice after another, then the event and the entries that come with it.
 const RECORD: usize = 16;
@@ -407,29 +411,24 @@ fn feed(m: Machine, memory: &mut [u64], bytes: &[u8]) -> Machine {
 }
 
 // A proved loop has to end, and nothing says that the input does: the turns are counted down from a number that no run uses up.
-fn read_all(memory: &mut [u64]) -> Machine {
+fn read_all(input: &mut impl Read, memory: &mut [u64]) -> io::Result<Machine> {
     let mut m = Machine::fresh();
     let mut turns = u64::MAX;
     let mut is_more = true;
     while turns > 0 && is_more {
-        let mut part = io::large_buffer();
-        let n = io::read_full(STDIN_FILENO, &mut part);
+        let mut part = [0u8; PART];
+        let n = input.read(&mut part)?;
         m = feed(m, memory, &part[..n]);
         is_more = n > 0;
         turns -= 1;
     }
-    m
+    Ok(m)
 }
 
-fn tell(what: &[u8], n: u64) {
-    io::write_all(STDOUT_FILENO, what);
-    io::print_decimal(STDOUT_FILENO, n);
-    io::write_all(STDOUT_FILENO, b"\n");
-}
-
-fn main() {
+fn main(rt: HostRuntime) -> io::Result<()> {
     let mut memory = [0u64; MEMORY];
-    let m = read_all(&mut memory);
-    tell(b"steps ", m.steps);
-    tell(b"differences ", m.differences);
+    let mut input = rt.reader();
+    let m = read_all(&mut input, &mut memory)?;
+    println!(rt; "steps {}", m.steps)?;
+    println!(rt; "differences {}", m.differences)
 }

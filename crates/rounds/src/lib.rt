@@ -1,64 +1,72 @@
 // Three depots at work, told in words: a step, a drain with its deliveries and losses, drains until all queues are empty, and a table of the depots.
 #![tactic(auto)]
 
-ghost use Rattle.std.specs.Prelude.{◌≡◌};
+ghost use Rattle.std.specs.Prelude.{◌≡◌, IfOk};
 ghost use Rattle.hire_book.specs.Step.{told, total_step};
 ghost use Rattle.cluster.specs.Cluster.{step_at};
 ghost use Rattle.rounds.specs.Drains.{carry_at, drained, waits_at, next_sender, settled};
 
 use cluster::{Cluster, Site};
 use messages::{Event, Head};
+use std::io;
 use telling::{say, say_answer, say_ballot, say_entries, say_message, say_number, say_state};
 
 // A message of a depot's row, with its entries.
-pub fn say_head(from: Site, head: Head) {
+pub fn say_head(rt: &impl Print, from: Site, head: Head) -> io::Result<()> {
     let c = from.config;
-    say_number(b"  ", c.pid);
-    say_number(b" to ", head.to);
-    say(b": ");
+    say_number(rt, "  ", c.pid)?;
+    say_number(rt, " to ", head.to)?;
+    say(rt, ": ")?;
     let msg = head.msg;
-    say_message(msg);
+    say_message(rt, msg)?;
     let store = from.store;
     let start = head.start;
     let count = head.count;
-    say_entries(storage::part(&store, start, count));
+    say_entries(rt, storage::part(&store, start, count))
 }
 
 // One step of a depot, told in words.
-pub fn act(c: Cluster, pid: u64, what: &[u8], e: Event, entries: &[u64]) -> Cluster
-    ensures { result ≡ (step_at pid e entries.now c).cluster }
+pub fn act(
+    rt: &impl Print,
+    c: Cluster,
+    pid: u64,
+    what: &str,
+    e: Event,
+    entries: &[u64],
+) -> io::Result<Cluster>
+    ensures { IfOk result (λ after. after ≡ (step_at pid e entries.now c).cluster) }
 {
-    say_number(b"depot ", pid);
-    say(what);
-    say_entries(entries);
+    say_number(rt, "depot ", pid)?;
+    say(rt, what)?;
+    say_entries(rt, entries)?;
     let m = c.step(pid, e, entries);
     let answer = m.answer;
-    say_answer(answer.no);
-    say(b"\n");
-    m.cluster
+    say_answer(rt, answer.no)?;
+    say(rt, "\n")?;
+    Ok(m.cluster)
 }
 
 // The message at a place of a depot's row arrives, or is lost where it goes to the depot `lost`.
-fn carry(c: Cluster, from: u64, at: usize, lost: u64) -> Cluster
-    ensures { result ≡ carry_at from lost at c }
+fn carry(rt: &impl Print, c: Cluster, from: u64, at: usize, lost: u64) -> io::Result<Cluster>
+    ensures { IfOk result (λ after. after ≡ carry_at from lost at c) }
 {
     let sender = c.site(from);
     let head = sender.head(at);
-    say_head(sender, head);
+    say_head(rt, sender, head)?;
     if head.to == lost {
-        say(b": LOST\n");
-        return c;
+        say(rt, ": LOST\n")?;
+        return Ok(c);
     }
     let m = c.deliver(from, at);
     let answer = m.answer;
-    say_answer(answer.no);
-    say(b"\n");
-    m.cluster
+    say_answer(rt, answer.no)?;
+    say(rt, "\n")?;
+    Ok(m.cluster)
 }
 
 // A depot's queue is drained, and each message arrives in order, but those to the depot `lost` (0: none is lost).
-pub fn drain(c: Cluster, from: u64, lost: u64) -> Cluster
-    ensures { result ≡ drained from lost c }
+pub fn drain(rt: &impl Print, c: Cluster, from: u64, lost: u64) -> io::Result<Cluster>
+    ensures { IfOk result (λ after. after ≡ drained from lost c) }
 {
     let none = [0u64; 0];
     let m = c.step(from, Event::Drain, &none);
@@ -67,10 +75,10 @@ pub fn drain(c: Cluster, from: u64, lost: u64) -> Cluster
     let mut cluster = m.cluster;
     let mut at: usize = 0;
     while at < count {
-        cluster = carry(cluster, from, at, lost);
+        cluster = carry(rt, cluster, from, at, lost)?;
         at += 1;
     }
-    cluster
+    Ok(cluster)
 }
 
 // How many messages wait in a depot's queue.
@@ -82,17 +90,18 @@ fn queued(s: Site) -> usize
 }
 
 // The messages that wait in a depot's queue.
-pub fn say_queue(s: Site) {
+pub fn say_queue(rt: &impl Print, s: Site) -> io::Result<()> {
     let c = s.config;
-    say_number(b"waiting at depot ", c.pid);
-    say(b":\n");
+    say_number(rt, "waiting at depot ", c.pid)?;
+    say(rt, ":\n")?;
     let count = queued(s);
     let mut at: usize = 0;
     while at < count {
-        say_head(s, s.head(at));
-        say(b"\n");
+        say_head(rt, s, s.head(at))?;
+        say(rt, "\n")?;
         at += 1;
     }
+    Ok(())
 }
 
 fn waits(c: Cluster, pid: u64) -> bool
@@ -118,20 +127,20 @@ fn next_sender(c: Cluster) -> u64
 }
 
 // Queues are drained and messages arrive until all queues are empty, or so many drains were made.
-pub fn settle(c: Cluster, drains: u64) -> Cluster
-    ensures { result ≡ settled drains c }
+pub fn settle(rt: &impl Print, c: Cluster, drains: u64) -> io::Result<Cluster>
+    ensures { IfOk result (λ after. after ≡ settled drains c) }
 {
     let mut cluster = c;
     let mut left = drains;
     while left > 0 {
         let from = next_sender(cluster);
         if from == 0 {
-            return cluster;
+            return Ok(cluster);
         }
-        cluster = drain(cluster, from, 0);
+        cluster = drain(rt, cluster, from, 0)?;
         left -= 1;
     }
-    cluster
+    Ok(cluster)
 }
 
 // The stored days of a book; 0 where it is refused.
@@ -153,19 +162,19 @@ pub fn total_of(book: [u64; hire_book::BOOK]) -> u64
 }
 
 // A line of the table: what a depot promised and holds.
-fn say_site(s: Site) {
+fn say_site(rt: &impl Print, s: Site) -> io::Result<()> {
     let c = s.config;
     let node = s.node;
     let kept = node.internal_storage;
-    say_number(b"depot ", c.pid);
-    say(b": ");
-    say_state(node.state);
-    say_ballot(b", promise ", kept.promise);
-    say_number(b", log ", kept.accepted_idx as u64);
-    say_number(b", decided ", kept.decided_idx as u64);
+    say_number(rt, "depot ", c.pid)?;
+    say(rt, ": ")?;
+    say_state(rt, node.state)?;
+    say_ballot(rt, ", promise ", kept.promise)?;
+    say_number(rt, ", log ", kept.accepted_idx as u64)?;
+    say_number(rt, ", decided ", kept.decided_idx as u64)?;
     let book = s.book;
-    say_number(b", days ", total_of(book));
-    say(b"\n");
+    say_number(rt, ", days ", total_of(book))?;
+    say(rt, "\n")
 }
 
 fn same_books(a: Site, b: Site) -> bool {
@@ -175,16 +184,15 @@ fn same_books(a: Site, b: Site) -> bool {
 }
 
 // The table of the three depots, and whether their books are equal.
-pub fn say_table(c: Cluster) {
+pub fn say_table(rt: &impl Print, c: Cluster) -> io::Result<()> {
     let first = c.site(1);
     let second = c.site(2);
     let third = c.site(3);
-    say_site(first);
-    say_site(second);
-    say_site(third);
+    say_site(rt, first)?;
+    say_site(rt, second)?;
+    say_site(rt, third)?;
     if same_books(first, second) && same_books(first, third) {
-        say(b"the books are equal\n");
-        return;
+        return say(rt, "the books are equal\n");
     }
-    say(b"the books differ\n");
+    say(rt, "the books differ\n")
 }

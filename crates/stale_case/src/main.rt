@@ -6,6 +6,7 @@ use cluster::Cluster;
 use leader_state::Latest;
 use messages::Event;
 use rounds::{act, drain, settle};
+use std::io;
 use telling::say;
 
 // Pump 7: out on day 10, back on day 14, out on day 33, back on day 35.
@@ -17,7 +18,7 @@ const OUT_33: u64 = 16_903;
 
 const BACK_35: u64 = 18_183;
 
-fn lead(c: Cluster) -> Cluster {
+fn lead(rt: &impl Print, c: Cluster) -> io::Result<Cluster> {
     let none = [0u64; 0];
     let n = Ballot {
         n: 1,
@@ -25,42 +26,47 @@ fn lead(c: Cluster) -> Cluster {
         pid: 1,
     };
     let c1 = act(
+        rt,
         c,
         1,
-        b" is told to lead with 1.0.1",
+        " is told to lead with 1.0.1",
         Event::Leader(n),
         &none,
-    );
-    let c2 = drain(c1, 1, 0);
-    let c3 = drain(c2, 2, 0);
-    drain(c3, 3, 0)
+    )?;
+    let c2 = drain(rt, c1, 1, 0)?;
+    let c3 = drain(rt, c2, 2, 0)?;
+    drain(rt, c3, 3, 0)
 }
 
-fn propose(c: Cluster, entry: u64) -> Cluster {
+fn propose(rt: &impl Print, c: Cluster, entry: u64) -> io::Result<Cluster> {
     let entries = [entry; 1];
-    act(c, 1, b" is given", Event::Propose, &entries)
+    act(rt, c, 1, " is given", Event::Propose, &entries)
 }
 
 // The AcceptSync of session 1 to depot 3 is lost, and the AcceptDecide of the first entry waits.
-fn lose_session_1(c: Cluster) -> Cluster {
-    say(b"\n-- The AcceptSync of session 1 to depot 3 is lost.\n");
-    let c1 = drain(c, 1, 3);
-    let c2 = drain(c1, 2, 0);
+fn lose_session_1(rt: &impl Print, c: Cluster) -> io::Result<Cluster> {
+    say(rt, "\n-- The AcceptSync of session 1 to depot 3 is lost.\n")?;
+    let c1 = drain(rt, c, 1, 3)?;
+    let c2 = drain(rt, c1, 2, 0)?;
     say(
-        b"\n-- The first entry: an AcceptDecide of session 1 to depot 3 waits in the queue, and its position is remembered.\n",
-    );
-    let c3 = propose(c2, OUT_10);
-    rounds::say_queue(c3.site(1));
-    c3
+        rt,
+        "\n-- The first entry: an AcceptDecide of session 1 to depot 3 waits in the queue, and its position is remembered.\n",
+    )?;
+    let c3 = propose(rt, c2, OUT_10)?;
+    rounds::say_queue(rt, c3.site(1))?;
+    Ok(c3)
 }
 
-fn resend_promise(c: Cluster) -> Cluster {
+fn resend_promise(rt: &impl Print, c: Cluster) -> io::Result<Cluster> {
     let none = [0u64; 0];
-    say(b"\n-- Depot 3 resends its Promise, which draws an AcceptSync of session 2.\n");
-    let c1 = act(c, 3, b" resends", Event::Resend, &none);
-    let c2 = drain(c1, 3, 0);
-    rounds::say_queue(c2.site(1));
-    c2
+    say(
+        rt,
+        "\n-- Depot 3 resends its Promise, which draws an AcceptSync of session 2.\n",
+    )?;
+    let c1 = act(rt, c, 3, " resends", Event::Resend, &none)?;
+    let c2 = drain(rt, c1, 3, 0)?;
+    rounds::say_queue(rt, c2.site(1))?;
+    Ok(c2)
 }
 
 // What the old rule leaves: depot 1 still remembers the AcceptDecide to depot 3 that stands at place 1 of its queue.
@@ -74,48 +80,53 @@ fn remembered(c: Cluster) -> Cluster {
     c.with_site(1, s)
 }
 
-fn second_entry(c: Cluster) -> Cluster {
-    let c1 = propose(c, BACK_14);
-    rounds::say_queue(c1.site(1));
-    settle(c1, 64)
+fn second_entry(rt: &impl Print, c: Cluster) -> io::Result<Cluster> {
+    let c1 = propose(rt, c, BACK_14)?;
+    rounds::say_queue(rt, c1.site(1))?;
+    settle(rt, c1, 64)
 }
 
 // Two entries more, and the table.
-fn rest(c: Cluster) {
-    let c1 = propose(c, OUT_33);
-    let c2 = settle(c1, 64);
-    let c3 = propose(c2, BACK_35);
-    let c4 = settle(c3, 64);
-    rounds::say_table(c4);
+fn rest(rt: &impl Print, c: Cluster) -> io::Result<()> {
+    let c1 = propose(rt, c, OUT_33)?;
+    let c2 = settle(rt, c1, 64)?;
+    let c3 = propose(rt, c2, BACK_35)?;
+    let c4 = settle(rt, c3, 64)?;
+    rounds::say_table(rt, c4)
 }
 
-fn old_rule(c: Cluster) {
+fn old_rule(rt: &impl Print, c: Cluster) -> io::Result<()> {
     say(
-        b"\n== The old rule, on a copy in which the position is put back: the second entry joins the message of number 1.2.\n",
-    );
+        rt,
+        "\n== The old rule, on a copy in which the position is put back: the second entry joins the message of number 1.2.\n",
+    )?;
     say(
-        b"-- Depot 3 drops that message, as it waits for an AcceptSync. Nobody sends it 7431 again, and it takes the next entry in its place:\n",
-    );
+        rt,
+        "-- Depot 3 drops that message, as it waits for an AcceptSync. Nobody sends it 7431 again, and it takes the next entry in its place:\n",
+    )?;
     say(
-        b"-- it misses the back of day 14, and charges the 19 days up to day 33 on which the pump stood in the yard.\n",
-    );
-    let c1 = second_entry(remembered(c));
-    rest(c1);
+        rt,
+        "-- it misses the back of day 14, and charges the 19 days up to day 33 on which the pump stood in the yard.\n",
+    )?;
+    let c1 = second_entry(rt, remembered(c))?;
+    rest(rt, c1)
 }
 
-fn new_rule(c: Cluster) {
+fn new_rule(rt: &impl Print, c: Cluster) -> io::Result<()> {
     say(
-        b"\n== The new rule: the AcceptSync forgot the position, and the second entry goes to depot 3 in an AcceptDecide of session 2.\n",
-    );
-    let c1 = second_entry(c);
-    rest(c1);
+        rt,
+        "\n== The new rule: the AcceptSync forgot the position, and the second entry goes to depot 3 in an AcceptDecide of session 2.\n",
+    )?;
+    let c1 = second_entry(rt, c)?;
+    rest(rt, c1)
 }
 
-fn main() {
+fn main(rt: HostRuntime) -> io::Result<()> {
+    let rt = &rt;
     let c = Cluster::fresh();
-    let c1 = lead(c);
-    let c2 = lose_session_1(c1);
-    let c3 = resend_promise(c2);
-    old_rule(c3);
-    new_rule(c3);
+    let c1 = lead(rt, c)?;
+    let c2 = lose_session_1(rt, c1)?;
+    let c3 = resend_promise(rt, c2)?;
+    old_rule(rt, c3)?;
+    new_rule(rt, c3)
 }
