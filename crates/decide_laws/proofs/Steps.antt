@@ -1,5 +1,5 @@
 -- Every step: at most six things in its plan, to depots alone and few to each; a decided index and a promise that never fall; places past the depots as found.
-use Prim.Native.Nat.{ℕ, ◌*◌, ◌≤◌}
+use Prim.Native.Nat.{ℕ, ◌≤◌}
 use mathlib.Core.Path.{◌≡◌, ap, sym, ◌∙◌}
 use mathlib.Core.Logic.{inl, inr, ◌≢◌}
 use native.Mathlib.Omega.{arith}
@@ -23,6 +23,7 @@ use Rattle.outcome.specs.declared.Decision.{Decision}
 use Rattle.outcome.specs.Outcome.{drained, restarted, outcome_refusal, settled}
 use Rattle.sequence_paxos.specs.Decide.{report_of, brought_by, handle, resend_by, taken, decide_of}
 use Rattle.sequence_paxos.specs.Fit.{few_in, fit_event}
+use Rattle.decide_laws.specs.Counts.{Six, each_in, each_of}
 use Rattle.decide_laws.proofs.Grown.{either, InPlace, Goes, goes_none, sent_to, sent-nothing, Rises, Step, Longer, step-none, step-more, step-longer, step-places}
 use Rattle.decide_laws.proofs.Table.{QueuePassed, would_wait, would_carry, outcome, number_is, passed-if-six}
 use Rattle.decide_laws.proofs.Log.{PromisedWithin}
@@ -70,27 +71,6 @@ joining_in (msg.Accepted m) count s = 0
 joining_in (msg.NotAccepted m) count s = 0
 joining_in (msg.Decide m) count s = 0
 joining_in msg.ProposalForward count s = joining (standing_of s.state.role s.state.phase) count
-
--- how many things a step sends to a depot at most: one, but a forward and an Accepted in answer to an AcceptSync
-abbrev pub each_in : PaxosMsg → ℕ
-each_in (msg.PrepareReq m) = 1
-each_in (msg.Prepare m) = 1
-each_in (msg.Promise m) = 1
-each_in (msg.AcceptSync m) = 2
-each_in (msg.AcceptDecide m) = 1
-each_in (msg.Accepted m) = 1
-each_in (msg.NotAccepted m) = 1
-each_in (msg.Decide m) = 1
-each_in msg.ProposalForward = 1
-
-abbrev pub each_of : Event → ℕ
-each_of (event.Message m) = each_in m.msg
-each_of event.Propose = 1
-each_of (event.Leader n) = 1
-each_of (event.Reconnect pid) = 1
-each_of event.Resend = 1
-each_of event.Drain = 1
-each_of event.Restart = 1
 
 module _ (count : ℕ) (s : SequencePaxos) (u : Unbroken s) where
   step-handle : (m : PaxosMsg) (from : ℕ) → InPlace from s.config → BallotOf m s.config → few_in m count → Longer (joining_in m count s) (each_in m) (most_sent s.config) s (handle m count from s)
@@ -141,12 +121,6 @@ pub record Unplanned (s : SequencePaxos) : Type 0 where
   pub things : s.plan.sends.count ≡ 0
   pub messages : s.plan.sends.messages ≡ 0
   pub entries : s.plan.sends.entries ≡ 0
-
--- at most six things and six new messages, each of at most 512 entries
-pub record Six (s : SequencePaxos) : Type 0 where
-  pub things : s.plan.sends.count ≤ 6
-  pub messages : s.plan.sends.messages ≤ 6
-  pub entries : s.plan.sends.entries ≤ 6 * max_log
 
 -- six AcceptSyncs fit an empty queue
 six-fit : (s : SequencePaxos) → Six s → s.outgoing.len ≡ 0 → s.outgoing.entries ≡ 0 → QueuePassed (would_wait s) (would_carry s) → ⊥

@@ -11,6 +11,7 @@ use borrow.Author.Tests.{eqb-true, eqb-false}
 use Rattle.quorum.specs.declared.Configuration.{Configuration}
 use Rattle.messages.specs.declared.Row.{Row}
 use Rattle.messages.specs.declared.Event.{Event}
+use Rattle.decide_laws.specs.Counts.{Six}
 use Rattle.decide_laws.proofs.Steps as decides
 use Rattle.hire_book.specs.Below.{sum_below}
 use Rattle.sight.specs.Sight.{queue_entries}
@@ -36,7 +37,7 @@ queued-le e old new h = omega (arith, waiting-le e (old + new))
 
 module _ (c : Configuration) (e : Event) (entries : List ℕ) (w : World) where
   -- all the things that a step plans: at most six, of at most six new messages, each of at most 512 entries
-  pub six-planned : Taken c w.node w.row w.lists e entries → decides.Six (outcome_of c e entries w)
+  pub six-planned : Taken c w.node w.row w.lists e entries → Six (outcome_of c e entries w)
   six-planned t =
       let y = ready c w.node w.row w.lists e entries t in
       decides.six e (length entries) (found c e entries w) y.unbroken y.fit y.from-depot y.unplanned

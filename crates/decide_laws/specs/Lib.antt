@@ -1,0 +1,2 @@
+-- The definitions of `decide_laws`.
+pub mod Counts
