@@ -36,6 +36,7 @@ fn refused(no: u32, r: Record, row: Row) -> Step
 }
 
 // What the step decides, once refusals 1, 2, 3 and the 4 of every state are past.
+#[tactic(auto, unfolding(step::specs::Step::box_of))]
 fn decide(
     c: Configuration,
     r: Record,
@@ -121,6 +122,7 @@ fn make_again(book: &mut [u64], log: &[u64], decided: usize)
     hire_book::apply_run(book, storage::first(log, decided));
 }
 
+#[tactic(auto, unfolding(step::specs::Step::book_after))]
 fn keep_book(book: &mut [u64], e: Event, log: &[u64], old: usize, new: usize)
     requires sound { Sound book.old }
     requires log_value { any_above (newly_decided old new log.now) ≡ false }
@@ -190,6 +192,7 @@ fn store_record(s: SequencePaxos, r: Record, e: Event, entries: &[u64]) -> Recor
 }
 
 // Everything that was decided is written.
+#[tactic(auto, unfolding(step::specs::Step::log_of))]
 fn perform(
     s: SequencePaxos,
     r: Record,
@@ -230,6 +233,7 @@ fn perform(
 
 // A step of a depot's box. The record and the row of heads go in and come back; the log, the two sync buffers, the entry store and the book are lent; `entries` come
 // with the event. Total: any record, row, lists, event and entries may be given, and the answer's number says which refusal, or 0.
+#[tactic(auto, unfolding(step::specs::Step::decision_of))]
 pub fn step_row(
     c: Configuration,
     r: Record,
