@@ -104,6 +104,7 @@ impl Site {
     }
 
     // One step of the depot.
+    #[tactic(auto, unfolding(crate::specs::Cluster::step_site))]
     pub fn step(self, e: Event, entries: &[u64]) -> Stepped
         ensures { result ≡ step_site e entries.now self }
     {
@@ -149,6 +150,7 @@ impl Site {
     }
 
     // The message of a head of another depot's row arrives, with its entries as they lie in that depot's store.
+    #[tactic(auto, unfolding(crate::specs::Cluster::receive_site))]
     pub fn receive(self, from: Site, head: Head) -> Stepped
         ensures { result ≡ receive_site from head self }
     {
@@ -209,6 +211,7 @@ impl Cluster {
     }
 
     // One step of one depot; the others stay.
+    #[tactic(auto, unfolding(crate::specs::Cluster::step_at))]
     pub fn step(self, pid: u64, e: Event, entries: &[u64]) -> Moved
         ensures { result ≡ step_at pid e entries.now self }
     {
@@ -227,6 +230,7 @@ impl Cluster {
     }
 
     // A message of a depot arrives at its receiver.
+    #[tactic(auto, unfolding(crate::specs::Cluster::carried))]
     fn carry(self, from: Site, head: Head) -> Moved
         ensures { result ≡ carried from head self }
     {
@@ -236,6 +240,7 @@ impl Cluster {
     }
 
     // The message at a place of a depot's row arrives at its receiver.
+    #[tactic(auto, unfolding(crate::specs::Cluster::deliver_at))]
     pub fn deliver(self, from: u64, at: usize) -> Moved
         ensures { result ≡ deliver_at from at self }
     {
