@@ -104,6 +104,7 @@ pub fn say_queue(rt: &impl Print, s: Site) -> io::Result<()> {
     Ok(())
 }
 
+#[tactic(auto, unfolding(crate::specs::Drains::waits_at))]
 fn waits(c: Cluster, pid: u64) -> bool
     ensures { result ≡ waits_at pid c }
 {
@@ -111,6 +112,7 @@ fn waits(c: Cluster, pid: u64) -> bool
 }
 
 // The first depot whose queue is not empty; 0 where none is.
+#[tactic(auto, unfolding(crate::specs::Drains::next_sender))]
 fn next_sender(c: Cluster) -> u64
     ensures { result ≡ next_sender c }
 {
