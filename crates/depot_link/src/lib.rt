@@ -15,8 +15,8 @@ use record::Record;
 use step::{Answer, Step};
 
 // The record of a box that never ran. 1 where the slice has not the length of a record.
-#[unsafe(no_mangle)]
-pub extern "C" fn depots_fresh(record: &mut [u64]) -> u32
+#[tactic(auto, unfolding(crate::specs::Link::fresh_in))]
+pub fn depots_fresh(record: &mut [u64]) -> u32
     ensures { fresh result «record».new ≡ fresh_in «record».old }
 {
     if record.len() != layout_record::RECORD {
@@ -27,6 +27,7 @@ pub extern "C" fn depots_fresh(record: &mut [u64]) -> u32
 }
 
 // Whether words are of the wrong length.
+#[tactic(auto, unfolding(crate::specs::Link::words_off))]
 fn words_off(configuration: usize, node: usize, row: usize, event: usize) -> bool
     ensures { result ≡ words_off configuration node row event }
 {
@@ -42,6 +43,7 @@ fn words_off(configuration: usize, node: usize, row: usize, event: usize) -> boo
     event != blocks::WORDS
 }
 
+#[tactic(auto, unfolding(crate::specs::Link::node_in))]
 fn node_in(node: &[u64], row: &[u64]) -> Record
     ensures { result ≡ node_in node.now row.now }
 {
@@ -64,6 +66,7 @@ fn event_of(words: &[u64]) -> Event
 }
 
 // What a taken step leaves of the record and the row goes back into their words, which then mean it.
+#[tactic(auto, unfolding(crate::specs::Link::node_in))]
 fn write_back(node: &mut [u64], row: &mut [u64], x: Step)
     requires node_len { length node.old ≡ record_length }
     requires row_len { length row.old ≡ row_length }
@@ -166,8 +169,7 @@ fn linked_step(
 
 // One step. The answer is document 01's number; how many buffered entries were dropped, and how many messages a drain handed out, go to
 // `dropped` and `handed_out`. Any slices may be given: where it is refused, all but these two is as found.
-#[unsafe(no_mangle)]
-pub extern "C" fn depots_step(
+pub fn depots_step(
     configuration: &[u64],
     record: &mut [u64],
     row: &mut [u64],
@@ -202,8 +204,7 @@ pub extern "C" fn depots_step(
 }
 
 // The same step with its row of heads lent to `depot::step` on the way, as a caller in Rattle lends it: for the replay and the benchmark.
-#[unsafe(no_mangle)]
-pub extern "C" fn depots_step_lent(
+pub fn depots_step_lent(
     configuration: &[u64],
     record: &mut [u64],
     row: &mut [u64],
@@ -238,8 +239,8 @@ pub extern "C" fn depots_step_lent(
 }
 
 // The report of a book, as text at the start of `out`, whose further bytes stay; `count` is how many bytes it has, 0 where it is refused.
-#[unsafe(no_mangle)]
-pub extern "C" fn depots_report(book: &[u64], out: &mut [u8], count: &mut u64) -> u32
+#[tactic(auto, unfolding(crate::specs::Report::report_in))]
+pub fn depots_report(book: &[u64], out: &mut [u8], count: &mut u64) -> u32
     ensures { reported result count.new out.new ≡ report_in book.now out.old }
 {
     *count = 0;
