@@ -1,8 +1,6 @@
 -- `acceptsync_taken` meets its contract.
 use Rattle.log_plan.proofs.Ends.{fit-within}
 use native.Mathlib.Omega.{arith}
-use Rattle.accepting.specs.Accepting.{acceptsync_taken}
-use borrow.Author.Rules.{rules}
 use Rattle.accepting.proofs.acceptsync_taken.Goals as goal
 
 pub acceptsync_put-s1-requires-clause-count_bound : goal.acceptsync_put-s1-requires-clause-count_bound

@@ -1,11 +1,8 @@
 -- `decimal::put_text` meets its contract: after i turns the first i bytes of the text stand in the buffer.
-use Prim.Native.Nat.{◌+◌, ◌≤◌, ◌-◌}
-use mathlib.Core.Path.{◌≡◌}
-use lib.ListN.{length, take, length-set}
-use lib.Seq.{take_all}
+use Prim.Native.Nat.{◌-◌}
+use lib.ListN.{length-set}
 use borrow.Author.Rules.{rules}
 use native.Mathlib.Omega.{arith}
-use Rattle.decimal.specs.Text.{Put}
 use Rattle.decimal.proofs.Text.{put-more}
 use Rattle.decimal.proofs.put_text.Goals as goal
 

@@ -1,12 +1,8 @@
 -- `decimal::put_text` meets its contract: after i turns the first i bytes of the text stand in the buffer.
 use Prim.Native.Nat.{◌+◌, ◌≤◌, ◌-◌}
 use mathlib.Core.Path.{◌≡◌}
-use lib.ListN.{length, take, length-set}
-use lib.Seq.{take_all}
-use borrow.Author.Rules.{rules}
-use native.Mathlib.Omega.{arith}
+use lib.ListN.{length, take}
 use Rattle.decimal.specs.Text.{Put}
-use Rattle.decimal.proofs.Text.{put-more}
 use Rattle.decimal.proofs.put_text.Given as goal
 
 abbrev pub invariant-loop-i : goal.invariant-loop-i

@@ -1,16 +1,12 @@
 -- `hire_book::any_above` meets its contract: up to the entry looked at, none was above the limit.
-use Prim.Native.Nat.{◌≤◌, ◌-◌}
-use mathlib.Core.Bool.{false}
-use mathlib.Core.Path.{◌≡◌, refl}
-use native.Mathlib.Omega.{arith}
+use Prim.Native.Nat.{◌-◌}
 use lib.Dec.{ltb}
 use lib.ListN.{length, get_or}
 use borrow.Author.Rules.{rules}
-use borrow.Author.Tests.{lt-ltb, le-ltb}
+use borrow.Author.Tests.{lt-ltb}
 use Rattle.base.specs.Limits.{max_entry}
-use Rattle.hire_book.specs.Below.{any_below}
 use Rattle.hire_book.specs.Book.{any_above}
-use Rattle.hire_book.proofs.Below.{found, none_more}
+use Rattle.hire_book.proofs.Below.{found}
 use Rattle.hire_book.proofs.any_above.Goals as goal
 
 pub returns-then-entries-i-gt-MAX_ENTRY : goal.returns-then-entries-i-gt-MAX_ENTRY

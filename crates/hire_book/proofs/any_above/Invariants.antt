@@ -1,16 +1,11 @@
 -- `hire_book::any_above` meets its contract: up to the entry looked at, none was above the limit.
 use Prim.Native.Nat.{◌≤◌, ◌-◌}
 use mathlib.Core.Bool.{false}
-use mathlib.Core.Path.{◌≡◌, refl}
-use native.Mathlib.Omega.{arith}
+use mathlib.Core.Path.{◌≡◌}
 use lib.Dec.{ltb}
 use lib.ListN.{length, get_or}
-use borrow.Author.Rules.{rules}
-use borrow.Author.Tests.{lt-ltb, le-ltb}
 use Rattle.base.specs.Limits.{max_entry}
 use Rattle.hire_book.specs.Below.{any_below}
-use Rattle.hire_book.specs.Book.{any_above}
-use Rattle.hire_book.proofs.Below.{found, none_more}
 use Rattle.hire_book.proofs.any_above.Given as goal
 
 abbrev pub invariant-loop-i : goal.invariant-loop-i

@@ -1,13 +1,11 @@
 -- `hire_book::any_broken` meets its contract: up to the pump looked at, none was broken.
-use Prim.Native.Nat.{◌≤◌, ◌-◌}
-use mathlib.Core.Bool.{false}
-use mathlib.Core.Path.{◌≡◌, refl, sym, ◌∙◌}
+use Prim.Native.Nat.{◌-◌}
+use mathlib.Core.Path.{◌≡◌, sym, ◌∙◌}
 use native.Mathlib.Omega.{arith}
 use borrow.Author.Rules.{rules}
 use Rattle.base.specs.Limits.{pumps}
-use Rattle.hire_book.specs.Below.{any_below}
 use Rattle.hire_book.specs.Book.{broken_of, pump_broken}
-use Rattle.hire_book.proofs.Below.{found, none_more}
+use Rattle.hire_book.proofs.Below.{found}
 use Rattle.hire_book.proofs.any_broken.Goals as goal
 
 pub returns-then-pump_broken : goal.returns-then-pump_broken

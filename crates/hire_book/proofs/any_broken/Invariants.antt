@@ -1,13 +1,10 @@
 -- `hire_book::any_broken` meets its contract: up to the pump looked at, none was broken.
 use Prim.Native.Nat.{◌≤◌, ◌-◌}
 use mathlib.Core.Bool.{false}
-use mathlib.Core.Path.{◌≡◌, refl, sym, ◌∙◌}
-use native.Mathlib.Omega.{arith}
-use borrow.Author.Rules.{rules}
+use mathlib.Core.Path.{◌≡◌}
 use Rattle.base.specs.Limits.{pumps}
 use Rattle.hire_book.specs.Below.{any_below}
-use Rattle.hire_book.specs.Book.{broken_of, pump_broken}
-use Rattle.hire_book.proofs.Below.{found, none_more}
+use Rattle.hire_book.specs.Book.{pump_broken}
 use Rattle.hire_book.proofs.any_broken.Given as goal
 
 abbrev pub invariant-loop-pump : goal.invariant-loop-pump

@@ -1,11 +1,7 @@
 -- `hire_book::apply_run` meets its contract: the book is the entries passed so far applied to the one lent, and stays sound.
-use Prim.Native.Nat.{◌≤◌, ◌-◌}
-use mathlib.Core.Path.{◌≡◌, refl}
-use native.Mathlib.Omega.{arith}
-use lib.ListN.{length, take, get_or}
-use lib.Seq.{take-length}
+use Prim.Native.Nat.{◌-◌}
+use lib.ListN.{get_or}
 use borrow.Author.Rules.{rules}
-use Rattle.hire_book.specs.Book.{apply_all, Sound}
 use Rattle.hire_book.proofs.Entries.{apply-more, within}
 use Rattle.hire_book.proofs.Sound.{apply-sound}
 use Rattle.hire_book.proofs.apply_run.Goals as goal

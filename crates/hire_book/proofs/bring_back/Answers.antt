@@ -1,10 +1,7 @@
 -- `hire_book::bring_back` meets its contract: a sound book has room for the days charged.
 use Prim.Native.Nat.{◌-◌}
 use native.Mathlib.Omega.{arith}
-use lib.ListN.{length-set}
 use borrow.Author.Rules.{rules}
-use borrow.Author.Tests.{lt-leb, le-leb, eq-eqb, ne_eqb}
-use Rattle.hire_book.specs.Book.{entered, open_out}
 use Rattle.hire_book.proofs.Sound.{sound-pump}
 use Rattle.hire_book.proofs.bring_back.Goals as goal
 

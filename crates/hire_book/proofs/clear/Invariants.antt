@@ -1,12 +1,8 @@
 -- `hire_book::clear` meets its contract: zeros up to the cell reached.
 use Prim.Native.Nat.{◌≤◌, ◌-◌}
-use mathlib.Core.List.{◌++◌, append-nil}
-use mathlib.Core.Path.{◌≡◌, refl}
-use native.Mathlib.Omega.{arith}
+use mathlib.Core.List.{◌++◌}
+use mathlib.Core.Path.{◌≡◌}
 use lib.ListN.{length, replicate, drop}
-use lib.Seq.{drop-length}
-use borrow.Author.Fill.{fill_more}
-use borrow.Author.Rules.{rules}
 use Rattle.hire_book.proofs.clear.Given as goal
 
 abbrev pub invariant-loop-i : goal.invariant-loop-i

@@ -1,13 +1,9 @@
 -- `hire_book::sum_days` meets its contract: the sum so far, which is at most 65,535 a pump.
 use Prim.Native.Nat.{◌≤◌, ◌-◌, ◌*◌}
-use mathlib.Core.Path.{◌≡◌, refl}
-use native.Mathlib.Numerals.{add-one}
-use native.Mathlib.Omega.{arith}
-use borrow.Author.Rules.{rules}
+use mathlib.Core.Path.{◌≡◌}
 use Rattle.base.specs.Limits.{pumps, max_day}
 use Rattle.hire_book.specs.Below.{sum_below}
 use Rattle.hire_book.specs.Book.{charged}
-use Rattle.hire_book.proofs.Sound.{sound-pump}
 use Rattle.hire_book.proofs.sum_days.Given as goal
 
 abbrev pub invariant-loop-pump : goal.invariant-loop-pump

@@ -1,7 +1,5 @@
 -- `lent_heads::apply` meets its contract: all turns are done.
-use Rattle.std.proofs.Common.{◌≡◌, ◌∙◌, ap, List, ℕ, length, arith, rules}
-use Rattle.base.specs.Limits.{max_messages}
-use Rattle.lent_heads.specs.Heads.{places_of}
+use Rattle.std.proofs.Common.{◌≡◌, ◌∙◌, ap, arith, rules}
 use Rattle.lent_heads.proofs.Turns.{filled, apply-done}
 use Rattle.lent_heads.proofs.apply.Goals as goal
 

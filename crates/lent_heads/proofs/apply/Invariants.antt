@@ -1,5 +1,5 @@
 -- `lent_heads::apply`: after i turns the lent row has the first i heads of the row by value.
-use Rattle.std.proofs.Common.{◌≡◌, ◌≤◌, ◌-◌, length}
+use Rattle.std.proofs.Common.{◌≡◌, ◌≤◌, ◌-◌}
 use Rattle.lent_heads.proofs.Turns.{filled}
 use Rattle.lent_heads.proofs.apply.Given as goal
 

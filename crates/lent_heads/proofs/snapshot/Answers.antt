@@ -1,11 +1,10 @@
 -- `lent_heads::snapshot` meets its contract: all turns are done.
-use Rattle.std.proofs.Common.{◌≡◌, ◌∙◌, ap, List, ℕ, length, arith}
+use Rattle.std.proofs.Common.{◌≡◌, ◌∙◌, ap, List, arith}
 use lib.ListN.{replicate}
 use Rattle.base.specs.Limits.{max_messages}
 use Rattle.messages.specs.declared.Head.{Head}
 use Rattle.messages.specs.declared.Row.{Row}
 use Rattle.messages.specs.Messages.{no_head}
-use Rattle.lent_heads.specs.Heads.{places_of}
 use Rattle.lent_heads.proofs.Turns.{filled, snapshot-done}
 use Rattle.lent_heads.proofs.snapshot.Goals as goal
 

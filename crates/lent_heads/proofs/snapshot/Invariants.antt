@@ -1,5 +1,5 @@
 -- `lent_heads::snapshot`: after i turns the row has the first i heads in it.
-use Rattle.std.proofs.Common.{◌≡◌, ◌≤◌, ◌-◌, length}
+use Rattle.std.proofs.Common.{◌≡◌, ◌≤◌, ◌-◌}
 use lib.ListN.{replicate}
 use Rattle.base.specs.Limits.{max_messages}
 use Rattle.messages.specs.Messages.{no_head}

@@ -3,7 +3,6 @@ use Rattle.log_plan.proofs.Ends.{kept-fits}
 use Rattle.paxos_box.proofs.Rooms.{log-set, buffer-set}
 use native.Mathlib.Omega.{arith}
 use Rattle.log_plan.specs.Log.{append_buffered}
-use borrow.Author.Rules.{rules}
 use Rattle.log_plan.proofs.append_buffered.Goals as goal
 
 pub returns-clause-room : goal.returns-clause-room

@@ -1,8 +1,6 @@
 -- `sync_unfit` meets its contract.
 use Rattle.log_plan.proofs.Ends.{ends-within}
-use Rattle.log_plan.specs.Log.{sync_unfit}
 use native.Mathlib.Omega.{arith}
-use borrow.Author.Rules.{rules}
 use Rattle.log_plan.proofs.sync_unfit.Goals as goal
 
 pub overflow_add-x : goal.overflow_add-x

@@ -7,7 +7,6 @@ use Rattle.decimal.proofs.Text.{put-after}
 use Rattle.page.specs.Page.{space, line_end}
 use Rattle.page.proofs.Rows.{row-none, row-some}
 use Rattle.page.proofs.Sizes.{row-size}
-use borrow.Author.Rules.{rules}
 use Rattle.page.proofs.put_row.Goals as goal
 
 pub returns-then-days-eq0 : goal.returns-then-days-eq0

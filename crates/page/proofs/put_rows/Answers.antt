@@ -1,11 +1,7 @@
 -- `page::put_rows` meets its contract: after n turns the lines of the pumps below n stand in the buffer.
-use Prim.Native.Nat.{◌≤◌, ◌-◌}
+use Prim.Native.Nat.{◌-◌}
 use native.Mathlib.Omega.{arith}
-use mathlib.Core.Path.{◌≡◌, refl}
-use lib.ListN.{length}
 use borrow.Author.Rules.{rules}
-use Rattle.base.specs.Limits.{pumps}
-use Rattle.decimal.specs.Text.{Put}
 use Rattle.decimal.proofs.Text.{put-after}
 use Rattle.hire_book.specs.Book.{charged}
 use Rattle.page.specs.Page.{row_of, rows_below}

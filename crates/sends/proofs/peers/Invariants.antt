@@ -1,12 +1,8 @@
 -- `peers` meets its contract: the places passed are marked.
-use Rattle.sends.specs.Sends.{peers_of}
-use Rattle.base.proofs.Lists.{marked_to, marked_turn}
-use Rattle.base.specs.Lists.{tabulate}
-use borrow.Author.Rules.{rules}
-use native.Mathlib.Omega.{arith}
+use Rattle.base.proofs.Lists.{marked_to}
 use lib.Dec.{eqb}
 use mathlib.Core.Bool.{not}
-use mathlib.Core.Path.{◌≡◌, refl}
+use mathlib.Core.Path.{◌≡◌}
 use Prim.Native.Nat.{◌≤◌, ◌-◌}
 use Rattle.sends.proofs.peers.Given as goal
 

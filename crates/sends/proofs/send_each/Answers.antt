@@ -1,12 +1,7 @@
 -- `send_each` meets its contract: the box so far is that of the places passed.
-use Rattle.sends.proofs.Turns.{marked_turn, marked-end}
-use Rattle.sends.specs.Sends.{for_marked, few_entries}
-use Rattle.paxos_box.specs.Room.{Room}
-use lib.ListN.{length}
+use Rattle.sends.proofs.Turns.{marked_turn}
 use borrow.Author.Rules.{rules}
-use native.Mathlib.Omega.{arith}
-use mathlib.Core.Path.{◌≡◌, refl}
-use Prim.Native.Nat.{◌≤◌, ◌-◌}
+use Prim.Native.Nat.{◌-◌}
 use Rattle.sends.proofs.send_each.Goals as goal
 
 pub loop-pid-preserved : goal.loop-pid-preserved

@@ -1,11 +1,8 @@
 -- `send_each` meets its contract: the box so far is that of the places passed.
-use Rattle.sends.proofs.Turns.{marked_turn, marked-end}
 use Rattle.sends.specs.Sends.{for_marked, few_entries}
 use Rattle.paxos_box.specs.Room.{Room}
 use lib.ListN.{length}
-use borrow.Author.Rules.{rules}
-use native.Mathlib.Omega.{arith}
-use mathlib.Core.Path.{◌≡◌, refl}
+use mathlib.Core.Path.{◌≡◌}
 use Prim.Native.Nat.{◌≤◌, ◌-◌}
 use Rattle.sends.proofs.send_each.Given as goal
 

@@ -1,12 +1,8 @@
 -- `write_suffix` meets its contract.
 -- `storage::write_suffix` meets its contract: after i turns the first i entries of the suffix lie over the part.
-use mathlib.Core.Path.{refl, ◌≡◌}
-use borrow.Author.Rules.{rules}
-use Rattle.storage.proofs.Laid.{over-turn}
+use mathlib.Core.Path.{◌≡◌}
 use Rattle.base.specs.Lists.{over}
-use lib.Seq.{take-length}
 use lib.ListN.{length, take}
-use native.Mathlib.Omega.{arith}
 use Prim.Native.Nat.{◌≤◌, ◌-◌}
 use Rattle.storage.proofs.write_suffix.Given as goal
 

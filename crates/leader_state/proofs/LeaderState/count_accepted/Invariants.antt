@@ -1,14 +1,9 @@
 -- `LeaderState::count_accepted` meets its contract: the count so far is of the places passed.
-use Rattle.leader_state.specs.Places.{accepted_at}
-use Rattle.leader_state.specs.State.{fresh}
-use Rattle.base.proofs.Lists.{length-mapped}
-use Rattle.base.specs.Count.{count, count-step}
+use Rattle.base.specs.Count.{count}
 use lib.ListN.{length, take}
 use lib.Dec.{leb}
-use borrow.Author.Rules.{rules}
-use native.Mathlib.Omega.{arith}
 use mathlib.Core.Path.{◌≡◌}
-use Prim.Native.Nat.{◌≤◌, ◌<◌, ◌-◌}
+use Prim.Native.Nat.{◌≤◌, ◌-◌}
 use Rattle.leader_state.proofs.LeaderState.count_accepted.Given as goal
 
 abbrev pub invariant-loop-i : goal.invariant-loop-i

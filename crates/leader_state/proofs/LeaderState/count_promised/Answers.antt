@@ -1,13 +1,11 @@
 -- `LeaderState::count_promised` meets its contract: the count so far is of the places passed.
-use Rattle.leader_state.specs.Promises.{promised_count, is_promised}
+use Rattle.leader_state.specs.Promises.{is_promised}
 use Rattle.leader_state.specs.State.{fresh}
-use Rattle.base.proofs.Lists.{length-mapped}
-use Rattle.base.specs.Count.{one, count, count-step}
-use lib.ListN.{length, take}
+use Rattle.base.specs.Count.{one, count-step}
+use lib.ListN.{length}
 use borrow.Author.Rules.{rules}
-use native.Mathlib.Omega.{arith}
-use mathlib.Core.Path.{◌≡◌, ◌∙◌, ap}
-use Prim.Native.Nat.{◌≤◌, ◌<◌, ◌-◌}
+use mathlib.Core.Path.{◌∙◌, ap}
+use Prim.Native.Nat.{◌<◌, ◌-◌}
 use Rattle.leader_state.proofs.LeaderState.count_promised.Goals as goal
 
 pub loop-i-preserved : goal.loop-i-preserved

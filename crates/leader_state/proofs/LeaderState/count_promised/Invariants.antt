@@ -1,13 +1,9 @@
 -- `LeaderState::count_promised` meets its contract: the count so far is of the places passed.
-use Rattle.leader_state.specs.Promises.{promised_count, is_promised}
-use Rattle.leader_state.specs.State.{fresh}
-use Rattle.base.proofs.Lists.{length-mapped}
-use Rattle.base.specs.Count.{one, count, count-step}
+use Rattle.leader_state.specs.Promises.{is_promised}
+use Rattle.base.specs.Count.{count}
 use lib.ListN.{length, take}
-use borrow.Author.Rules.{rules}
-use native.Mathlib.Omega.{arith}
-use mathlib.Core.Path.{◌≡◌, ◌∙◌, ap}
-use Prim.Native.Nat.{◌≤◌, ◌<◌, ◌-◌}
+use mathlib.Core.Path.{◌≡◌}
+use Prim.Native.Nat.{◌≤◌, ◌-◌}
 use Rattle.leader_state.proofs.LeaderState.count_promised.Given as goal
 
 abbrev pub invariant-loop-i : goal.invariant-loop-i

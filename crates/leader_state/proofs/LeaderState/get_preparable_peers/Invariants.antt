@@ -1,9 +1,6 @@
 -- `LeaderState::get_preparable_peers` meets its contract: the places passed are marked.
-use Rattle.leader_state.specs.Places.{is_peer, preparable_peers}
-use Rattle.base.proofs.Lists.{marked_to, marked_turn}
-use Rattle.base.specs.Lists.{tabulate}
-use borrow.Author.Rules.{rules}
-use native.Mathlib.Omega.{arith}
+use Rattle.leader_state.specs.Places.{is_peer}
+use Rattle.base.proofs.Lists.{marked_to}
 use mathlib.Core.Path.{◌≡◌}
 use Prim.Native.Nat.{◌≤◌, ◌-◌}
 use Rattle.leader_state.proofs.LeaderState.get_preparable_peers.Given as goal

@@ -1,9 +1,6 @@
 -- `LeaderState::get_promised_followers` meets its contract: the places passed are marked.
-use Rattle.leader_state.specs.Places.{is_follower, promised_followers}
-use Rattle.base.proofs.Lists.{marked_to, marked_turn}
-use Rattle.base.specs.Lists.{tabulate}
-use borrow.Author.Rules.{rules}
-use native.Mathlib.Omega.{arith}
+use Rattle.leader_state.specs.Places.{is_follower}
+use Rattle.base.proofs.Lists.{marked_to}
 use mathlib.Core.Path.{◌≡◌}
 use Prim.Native.Nat.{◌≤◌, ◌-◌}
 use Rattle.leader_state.proofs.LeaderState.get_promised_followers.Given as goal

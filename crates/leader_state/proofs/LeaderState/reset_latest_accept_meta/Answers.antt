@@ -1,13 +1,10 @@
 -- `LeaderState::reset_latest_accept_meta` meets its contract: the places passed remember nothing, the others are as found.
-use Rattle.leader_state.specs.State.{fresh, set_latest, forget_all}
+use Rattle.leader_state.specs.State.{fresh, set_latest}
 use Rattle.leader_state.specs.declared.Latest.TheVariants.{Nothing}
-use Rattle.base.proofs.Lists.{length-mapped, on-first-turn}
-use Rattle.base.specs.Lists.{on_first}
-use lib.ListN.{length}
+use Rattle.base.proofs.Lists.{on-first-turn}
 use borrow.Author.Rules.{rules}
 use native.Mathlib.Omega.{arith}
-use mathlib.Core.Path.{◌≡◌}
-use Prim.Native.Nat.{◌≤◌, ◌-◌}
+use Prim.Native.Nat.{◌-◌}
 use Rattle.leader_state.proofs.LeaderState.reset_latest_accept_meta.Goals as goal
 
 pub loop-i-preserved : goal.loop-i-preserved

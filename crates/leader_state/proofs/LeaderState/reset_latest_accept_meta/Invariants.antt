@@ -1,11 +1,8 @@
 -- `LeaderState::reset_latest_accept_meta` meets its contract: the places passed remember nothing, the others are as found.
-use Rattle.leader_state.specs.State.{fresh, set_latest, forget_all}
+use Rattle.leader_state.specs.State.{set_latest}
 use Rattle.leader_state.specs.declared.Latest.TheVariants.{Nothing}
-use Rattle.base.proofs.Lists.{length-mapped, on-first-turn}
 use Rattle.base.specs.Lists.{on_first}
 use lib.ListN.{length}
-use borrow.Author.Rules.{rules}
-use native.Mathlib.Omega.{arith}
 use mathlib.Core.Path.{◌≡◌}
 use Prim.Native.Nat.{◌≤◌, ◌-◌}
 use Rattle.leader_state.proofs.LeaderState.reset_latest_accept_meta.Given as goal

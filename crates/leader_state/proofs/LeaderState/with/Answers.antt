@@ -1,12 +1,9 @@
 -- `LeaderState::with` meets its contract: the places passed are fresh, the others as found.
-use Rattle.leader_state.specs.State.{fresh, with_of}
-use Rattle.base.proofs.Lists.{length-mapped, on-first-turn}
-use Rattle.base.specs.Lists.{on_first}
-use lib.ListN.{length}
+use Rattle.leader_state.specs.State.{fresh}
+use Rattle.base.proofs.Lists.{on-first-turn}
 use borrow.Author.Rules.{rules}
 use native.Mathlib.Omega.{arith}
-use mathlib.Core.Path.{◌≡◌}
-use Prim.Native.Nat.{◌≤◌, ◌-◌}
+use Prim.Native.Nat.{◌-◌}
 use Rattle.leader_state.proofs.LeaderState.with.Goals as goal
 
 pub loop-i-preserved : goal.loop-i-preserved

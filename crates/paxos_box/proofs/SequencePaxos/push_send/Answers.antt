@@ -1,7 +1,6 @@
 -- `SequencePaxos::push_send` meets its contract, and keeps the bounds.
 use Rattle.paxos_box.proofs.Rooms.{room-push}
 use Rattle.paxos_box.specs.Box.{push_of}
-use borrow.Author.Rules.{rules}
 use Rattle.paxos_box.proofs.SequencePaxos.push_send.Goals as goal
 
 pub returns-clause-room_2 : goal.returns-clause-room_2
