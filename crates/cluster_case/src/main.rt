@@ -20,12 +20,12 @@ const BACK_9: u64 = 14_089;
 // Pump 8 out on day 12, which a depot that leads no more takes and nobody decides.
 const OUT_8: u64 = 6152;
 
-fn give(rt: &impl Print, c: Cluster, pid: u64, entry: u64) -> io::Result<Cluster> {
+fn give(rt: &impl Print, c: &mut Cluster, pid: u64, entry: u64) -> io::Result<()> {
     let entries = [entry; 1];
     act(rt, c, pid, " is given", Event::Propose, &entries)
 }
 
-fn lead(rt: &impl Print, c: Cluster, round: u32, pid: u64) -> io::Result<Cluster> {
+fn lead(rt: &impl Print, c: &mut Cluster, round: u32, pid: u64) -> io::Result<()> {
     let none = [0u64; 0];
     let n = Ballot {
         n: round,
@@ -35,89 +35,97 @@ fn lead(rt: &impl Print, c: Cluster, round: u32, pid: u64) -> io::Result<Cluster
     act(rt, c, pid, " is told to lead", Event::Leader(n), &none)
 }
 
-fn tell(rt: &impl Print, c: Cluster, pid: u64, what: &str, e: Event) -> io::Result<Cluster> {
+fn tell(rt: &impl Print, c: &mut Cluster, pid: u64, what: &str, e: Event) -> io::Result<()> {
     let none = [0u64; 0];
     act(rt, c, pid, what, e, &none)
 }
 
-fn elect(rt: &impl Print, c: Cluster) -> io::Result<Cluster> {
+fn elect(rt: &impl Print, c: &mut Cluster) -> io::Result<()> {
     say(rt, "-- Depot 1 is elected with ballot 1.0.1.\n")?;
-    settle(rt, lead(rt, c, 1, 1)?, 64)
+    lead(rt, c, 1, 1)?;
+    settle(rt, c, 64)
 }
 
-fn forward(rt: &impl Print, c: Cluster) -> io::Result<Cluster> {
+fn forward(rt: &impl Print, c: &mut Cluster) -> io::Result<()> {
     say(rt, "\n-- Depot 2 is given an entry, and forwards it.\n")?;
-    settle(rt, give(rt, c, 2, OUT_7)?, 64)
+    give(rt, c, 2, OUT_7)?;
+    settle(rt, c, 64)
 }
 
-fn lose(rt: &impl Print, c: Cluster) -> io::Result<Cluster> {
+fn lose(rt: &impl Print, c: &mut Cluster) -> io::Result<()> {
     say(
         rt,
         "\n-- What goes to depot 3 is lost; it sees the gap at the next message, and asks to be prepared again.\n",
     )?;
-    let c1 = drain(rt, give(rt, c, 1, BACK_7)?, 1, 3)?;
-    settle(rt, c1, 64)
+    give(rt, c, 1, BACK_7)?;
+    drain(rt, c, 1, 3)?;
+    settle(rt, c, 64)
 }
 
-fn restart(rt: &impl Print, c: Cluster) -> io::Result<Cluster> {
+fn restart(rt: &impl Print, c: &mut Cluster) -> io::Result<()> {
     say(
         rt,
         "\n-- Depot 2 restarts, and reconnects with its leader.\n",
     )?;
-    let c1 = tell(rt, c, 2, " restarts", Event::Restart)?;
-    let c2 = tell(rt, c1, 2, " reconnects with depot 1", Event::Reconnect(1))?;
-    settle(rt, c2, 64)
+    tell(rt, c, 2, " restarts", Event::Restart)?;
+    tell(rt, c, 2, " reconnects with depot 1", Event::Reconnect(1))?;
+    settle(rt, c, 64)
 }
 
-fn part(rt: &impl Print, c: Cluster) -> io::Result<Cluster> {
+fn part(rt: &impl Print, c: &mut Cluster) -> io::Result<()> {
     say(
         rt,
         "\n-- Depot 3 is elected with ballot 2.0.3; what it sends to depot 1 is lost.\n",
     )?;
-    let c1 = drain(rt, lead(rt, c, 2, 3)?, 3, 1)?;
-    let c2 = drain(rt, c1, 2, 0)?;
-    let c3 = drain(rt, c2, 3, 1)?;
-    drain(rt, c3, 2, 0)
+    lead(rt, c, 2, 3)?;
+    drain(rt, c, 3, 1)?;
+    drain(rt, c, 2, 0)?;
+    drain(rt, c, 3, 1)?;
+    drain(rt, c, 2, 0)
 }
 
-fn two_leaders(rt: &impl Print, c: Cluster) -> io::Result<Cluster> {
+fn two_leaders(rt: &impl Print, c: &mut Cluster) -> io::Result<()> {
     say(
         rt,
         "\n-- Depot 1 still leads for itself: the entry it takes is not accepted by the others.\n",
     )?;
-    let c1 = settle(rt, give(rt, c, 1, OUT_8)?, 64)?;
+    give(rt, c, 1, OUT_8)?;
+    settle(rt, c, 64)?;
     say(
         rt,
         "\n-- Depot 3 takes an entry, which depots 2 and 3 decide.\n",
     )?;
-    settle(rt, give(rt, c1, 3, OUT_9)?, 64)
+    give(rt, c, 3, OUT_9)?;
+    settle(rt, c, 64)
 }
 
-fn heal(rt: &impl Print, c: Cluster) -> io::Result<Cluster> {
+fn heal(rt: &impl Print, c: &mut Cluster) -> io::Result<()> {
     say(
         rt,
         "\n-- Depot 3 resends its Prepare, which reaches depot 1: the entry that nobody decided gives way.\n",
     )?;
-    let c1 = settle(rt, tell(rt, c, 3, " resends", Event::Resend)?, 64)?;
+    tell(rt, c, 3, " resends", Event::Resend)?;
+    settle(rt, c, 64)?;
     say(
         rt,
         "\n-- Depot 1 restarts, reconnects, and forwards an entry.\n",
     )?;
-    let c2 = tell(rt, c1, 1, " restarts", Event::Restart)?;
-    let c3 = settle(
-        rt,
-        tell(rt, c2, 1, " reconnects with depot 3", Event::Reconnect(3))?,
-        64,
-    )?;
-    settle(rt, give(rt, c3, 1, BACK_9)?, 64)
+    tell(rt, c, 1, " restarts", Event::Restart)?;
+    tell(rt, c, 1, " reconnects with depot 3", Event::Reconnect(3))?;
+    settle(rt, c, 64)?;
+    give(rt, c, 1, BACK_9)?;
+    settle(rt, c, 64)
 }
 
 fn main(rt: HostRuntime) -> io::Result<()> {
-    let rt = &rt;
-    let c = Cluster::fresh();
-    let c1 = lose(rt, forward(rt, elect(rt, c)?)?)?;
-    let c2 = part(rt, restart(rt, c1)?)?;
-    let c3 = heal(rt, two_leaders(rt, c2)?)?;
-    say(rt, "\n")?;
-    rounds::say_table(rt, c3)
+    let mut c = Cluster::fresh();
+    elect(&rt, &mut c)?;
+    forward(&rt, &mut c)?;
+    lose(&rt, &mut c)?;
+    restart(&rt, &mut c)?;
+    part(&rt, &mut c)?;
+    two_leaders(&rt, &mut c)?;
+    heal(&rt, &mut c)?;
+    say(&rt, "\n")?;
+    rounds::say_table(&rt, c)
 }

@@ -1,7 +1,7 @@
 // Three depots at work, told in words: a step, a drain with its deliveries and losses, drains until all queues are empty, and a table of the depots.
 #![tactic(auto)]
 
-ghost use Rattle.std.specs.Prelude.{◌≡◌, IfOk};
+ghost use Rattle.std.specs.Prelude.{◌≡◌, OnOk};
 ghost use Rattle.hire_book.specs.Step.{told, total_step};
 ghost use Rattle.cluster.specs.Cluster.{step_at};
 ghost use Rattle.rounds.specs.Drains.{carry_at, drained, waits_at, next_sender, settled};
@@ -28,57 +28,58 @@ pub fn say_head(rt: &impl Print, from: Site, head: Head) -> io::Result<()> {
 // One step of a depot, told in words.
 pub fn act(
     rt: &impl Print,
-    c: Cluster,
+    c: &mut Cluster,
     pid: u64,
     what: &str,
     e: Event,
     entries: &[u64],
-) -> io::Result<Cluster>
-    ensures { IfOk result (λ after. after ≡ (step_at pid e entries.now c).cluster) }
+) -> io::Result<()>
+    ensures { OnOk result (c.new ≡ (step_at pid e entries.now c.old).cluster) }
 {
     say_number(rt, "depot ", pid)?;
     say(rt, what)?;
     say_entries(rt, entries)?;
     let m = c.step(pid, e, entries);
     let answer = m.answer;
+    *c = m.cluster;
     say_answer(rt, answer.no)?;
-    say(rt, "\n")?;
-    Ok(m.cluster)
+    say(rt, "\n")
 }
 
 // The message at a place of a depot's row arrives, or is lost where it goes to the depot `lost`.
-fn carry(rt: &impl Print, c: Cluster, from: u64, at: usize, lost: u64) -> io::Result<Cluster>
-    ensures { IfOk result (λ after. after ≡ carry_at from lost at c) }
+fn carry(rt: &impl Print, c: &mut Cluster, from: u64, at: usize, lost: u64) -> io::Result<()>
+    ensures { OnOk result (c.new ≡ carry_at from lost at c.old) }
 {
     let sender = c.site(from);
     let head = sender.head(at);
     say_head(rt, sender, head)?;
     if head.to == lost {
         say(rt, ": LOST\n")?;
-        return Ok(c);
+        return Ok(());
     }
     let m = c.deliver(from, at);
     let answer = m.answer;
+    *c = m.cluster;
     say_answer(rt, answer.no)?;
     say(rt, "\n")?;
-    Ok(m.cluster)
+    Ok(())
 }
 
 // A depot's queue is drained, and each message arrives in order, but those to the depot `lost` (0: none is lost).
-pub fn drain(rt: &impl Print, c: Cluster, from: u64, lost: u64) -> io::Result<Cluster>
-    ensures { IfOk result (λ after. after ≡ drained from lost c) }
+pub fn drain(rt: &impl Print, c: &mut Cluster, from: u64, lost: u64) -> io::Result<()>
+    ensures { OnOk result (c.new ≡ drained from lost c.old) }
 {
     let none = [0u64; 0];
     let m = c.step(from, Event::Drain, &none);
     let answer = m.answer;
     let count = answer.handed_out;
-    let mut cluster = m.cluster;
+    *c = m.cluster;
     let mut at: usize = 0;
     while at < count {
-        cluster = carry(rt, cluster, from, at, lost)?;
+        carry(rt, c, from, at, lost)?;
         at += 1;
     }
-    Ok(cluster)
+    Ok(())
 }
 
 // How many messages wait in a depot's queue.
@@ -129,20 +130,19 @@ fn next_sender(c: Cluster) -> u64
 }
 
 // Queues are drained and messages arrive until all queues are empty, or so many drains were made.
-pub fn settle(rt: &impl Print, c: Cluster, drains: u64) -> io::Result<Cluster>
-    ensures { IfOk result (λ after. after ≡ settled drains c) }
+pub fn settle(rt: &impl Print, c: &mut Cluster, drains: u64) -> io::Result<()>
+    ensures { OnOk result (c.new ≡ settled drains c.old) }
 {
-    let mut cluster = c;
     let mut left = drains;
     while left > 0 {
-        let from = next_sender(cluster);
+        let from = next_sender(*c);
         if from == 0 {
-            return Ok(cluster);
+            return Ok(());
         }
-        cluster = drain(rt, cluster, from, 0)?;
+        drain(rt, c, from, 0)?;
         left -= 1;
     }
-    Ok(cluster)
+    Ok(())
 }
 
 // The stored days of a book; 0 where it is refused.

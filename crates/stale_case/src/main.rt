@@ -18,14 +18,14 @@ const OUT_33: u64 = 16_903;
 
 const BACK_35: u64 = 18_183;
 
-fn lead(rt: &impl Print, c: Cluster) -> io::Result<Cluster> {
+fn lead(rt: &impl Print, c: &mut Cluster) -> io::Result<()> {
     let none = [0u64; 0];
     let n = Ballot {
         n: 1,
         priority: 0,
         pid: 1,
     };
-    let c1 = act(
+    act(
         rt,
         c,
         1,
@@ -33,40 +33,38 @@ fn lead(rt: &impl Print, c: Cluster) -> io::Result<Cluster> {
         Event::Leader(n),
         &none,
     )?;
-    let c2 = drain(rt, c1, 1, 0)?;
-    let c3 = drain(rt, c2, 2, 0)?;
-    drain(rt, c3, 3, 0)
+    drain(rt, c, 1, 0)?;
+    drain(rt, c, 2, 0)?;
+    drain(rt, c, 3, 0)
 }
 
-fn propose(rt: &impl Print, c: Cluster, entry: u64) -> io::Result<Cluster> {
+fn propose(rt: &impl Print, c: &mut Cluster, entry: u64) -> io::Result<()> {
     let entries = [entry; 1];
     act(rt, c, 1, " is given", Event::Propose, &entries)
 }
 
 // The AcceptSync of session 1 to depot 3 is lost, and the AcceptDecide of the first entry waits.
-fn lose_session_1(rt: &impl Print, c: Cluster) -> io::Result<Cluster> {
+fn lose_session_1(rt: &impl Print, c: &mut Cluster) -> io::Result<()> {
     say(rt, "\n-- The AcceptSync of session 1 to depot 3 is lost.\n")?;
-    let c1 = drain(rt, c, 1, 3)?;
-    let c2 = drain(rt, c1, 2, 0)?;
+    drain(rt, c, 1, 3)?;
+    drain(rt, c, 2, 0)?;
     say(
         rt,
         "\n-- The first entry: an AcceptDecide of session 1 to depot 3 waits in the queue, and its position is remembered.\n",
     )?;
-    let c3 = propose(rt, c2, OUT_10)?;
-    rounds::say_queue(rt, c3.site(1))?;
-    Ok(c3)
+    propose(rt, c, OUT_10)?;
+    rounds::say_queue(rt, c.site(1))
 }
 
-fn resend_promise(rt: &impl Print, c: Cluster) -> io::Result<Cluster> {
+fn resend_promise(rt: &impl Print, c: &mut Cluster) -> io::Result<()> {
     let none = [0u64; 0];
     say(
         rt,
         "\n-- Depot 3 resends its Promise, which draws an AcceptSync of session 2.\n",
     )?;
-    let c1 = act(rt, c, 3, " resends", Event::Resend, &none)?;
-    let c2 = drain(rt, c1, 3, 0)?;
-    rounds::say_queue(rt, c2.site(1))?;
-    Ok(c2)
+    act(rt, c, 3, " resends", Event::Resend, &none)?;
+    drain(rt, c, 3, 0)?;
+    rounds::say_queue(rt, c.site(1))
 }
 
 // What the old rule leaves: depot 1 still remembers the AcceptDecide to depot 3 that stands at place 1 of its queue.
@@ -80,19 +78,19 @@ fn remembered(c: Cluster) -> Cluster {
     c.with_site(1, s)
 }
 
-fn second_entry(rt: &impl Print, c: Cluster) -> io::Result<Cluster> {
-    let c1 = propose(rt, c, BACK_14)?;
-    rounds::say_queue(rt, c1.site(1))?;
-    settle(rt, c1, 64)
+fn second_entry(rt: &impl Print, c: &mut Cluster) -> io::Result<()> {
+    propose(rt, c, BACK_14)?;
+    rounds::say_queue(rt, c.site(1))?;
+    settle(rt, c, 64)
 }
 
 // Two entries more, and the table.
-fn rest(rt: &impl Print, c: Cluster) -> io::Result<()> {
-    let c1 = propose(rt, c, OUT_33)?;
-    let c2 = settle(rt, c1, 64)?;
-    let c3 = propose(rt, c2, BACK_35)?;
-    let c4 = settle(rt, c3, 64)?;
-    rounds::say_table(rt, c4)
+fn rest(rt: &impl Print, c: &mut Cluster) -> io::Result<()> {
+    propose(rt, c, OUT_33)?;
+    settle(rt, c, 64)?;
+    propose(rt, c, BACK_35)?;
+    settle(rt, c, 64)?;
+    rounds::say_table(rt, *c)
 }
 
 fn old_rule(rt: &impl Print, c: Cluster) -> io::Result<()> {
@@ -108,25 +106,25 @@ fn old_rule(rt: &impl Print, c: Cluster) -> io::Result<()> {
         rt,
         "-- it misses the back of day 14, and charges the 19 days up to day 33 on which the pump stood in the yard.\n",
     )?;
-    let c1 = second_entry(rt, remembered(c))?;
-    rest(rt, c1)
+    let mut put_back = remembered(c);
+    second_entry(rt, &mut put_back)?;
+    rest(rt, &mut put_back)
 }
 
-fn new_rule(rt: &impl Print, c: Cluster) -> io::Result<()> {
+fn new_rule(rt: &impl Print, c: &mut Cluster) -> io::Result<()> {
     say(
         rt,
         "\n== The new rule: the AcceptSync forgot the position, and the second entry goes to depot 3 in an AcceptDecide of session 2.\n",
     )?;
-    let c1 = second_entry(rt, c)?;
-    rest(rt, c1)
+    second_entry(rt, c)?;
+    rest(rt, c)
 }
 
 fn main(rt: HostRuntime) -> io::Result<()> {
-    let rt = &rt;
-    let c = Cluster::fresh();
-    let c1 = lead(rt, c)?;
-    let c2 = lose_session_1(rt, c1)?;
-    let c3 = resend_promise(rt, c2)?;
-    old_rule(rt, c3)?;
-    new_rule(rt, c3)
+    let mut c = Cluster::fresh();
+    lead(&rt, &mut c)?;
+    lose_session_1(&rt, &mut c)?;
+    resend_promise(&rt, &mut c)?;
+    old_rule(&rt, c)?;
+    new_rule(&rt, &mut c)
 }

@@ -5,7 +5,7 @@ use Rattle.rounds.specs.Drains.{carry_below}
 use Rattle.rounds.proofs.drain.Given as goal
 
 abbrev pub invariant-loop-at : goal.invariant-loop-at
-invariant-loop-at g l = (l.at ≤ l.count) × (l.cluster ≡ carry_below l.from l.lost l.at l.initial.cluster)
+invariant-loop-at g l = (l.at ≤ l.count) × (l.c ≡ carry_below l.from l.lost l.at l.initial.c)
 
 abbrev pub decreases-loop-at : goal.decreases-loop-at
 decreases-loop-at g l = l.count - l.at

@@ -4,7 +4,7 @@ use Rattle.rounds.specs.Drains.{settled}
 use Rattle.rounds.proofs.settle.Given as goal
 
 abbrev pub invariant-loop-left : goal.invariant-loop-left
-invariant-loop-left g l = settled l.left l.cluster ≡ settled l.drains l.initial.cluster
+invariant-loop-left g l = settled l.left l.c ≡ settled l.drains l.initial.c
 
 abbrev pub decreases-loop-left : goal.decreases-loop-left
 decreases-loop-left g l = l.left
