@@ -29,7 +29,7 @@ crates_of() { # CRATE
             for (i = 1; i <= n; i++) visit(list[i])
         }
         { sub(/#.*/, ""); colon = index($0, ":") }
-        colon { crate = substr($0, 1, colon - 1); gsub(/[ \t]/, "", crate); needs[crate] = substr($0, colon + 1) }
+        colon { split($0, word, /[ \t:]/); needs[word[1]] = substr($0, colon + 1) }
         END { visit(want) }' "$root/crates.txt"
 }
 
@@ -53,7 +53,7 @@ is_current() { # BUILT SOURCE..
     [ -z "$(find "$@" -newer "$built" -print -quit 2>&1)" ]
 }
 
-# One call builds at a time: rt's scratch files are shared. What it starts holds the lock too, should this call be ended.
+# One call builds at a time. What it starts holds the lock too, should this call be ended.
 lock() {
     mkdir -p "$root/target" || fail "$root/target cannot be made"
     if ! command -v flock >/dev/null; then
@@ -104,13 +104,31 @@ ensure() { # MAKER BUILT SOURCE..
     unlock
 }
 
-# Runs rt and says which crate is proved, one of how many. Everything that rt says is kept, and shown where it fails.
-rt_with_progress() { # HOW-MANY WORD..
-    local all=$1 said=$root/target/building.log
+# Runs in the crate's folder what proves it, and says which crate is proved and how many of all then are: it and what it is built on.
+# Everything that is said is kept, and shown where it fails.
+proving() { # CRATE COMMAND..
+    local crate=$1 said=$root/target/building.log
     shift
     command -v rt >/dev/null || fail "rt is not on the PATH: what has to be built needs the Rattle kit"
-    (cd "$root" && exec rt "$@") </dev/null 2>&1 | tee "$said" | awk -v name="$name" -v all="$all" '
-        / proved \(/ { count++ }
-        / proved \([0-9]+ s\)/ { printf "%s: %s, %d of %d\n", name, substr($0, 5), count, all; fflush() }' >&2
+    (cd "$root/crates/$crate" && exec "$@") </dev/null 2>&1 | tee "$said" | awk -v name="$name" -v all="$(crates_of "$crate" | wc -l)" '
+        function done_with(crate,    list, n, i) {
+            if (!(crate in needs) || crate in seen) return
+            seen[crate] = 1
+            count++
+            n = split(needs[crate], list, " ")
+            for (i = 1; i <= n; i++) done_with(list[i])
+        }
+        NR == FNR { sub(/#.*/, ""); colon = index($0, ":"); split($0, word, /[ \t:]/) }
+        NR == FNR && colon { needs[word[1]] = substr($0, colon + 1) }
+        NR == FNR { next }
+        $1 == "crate" { crate = $2; sub(/:$/, "", crate) }
+        /^logic=proved/ && (crate in needs) { done_with(crate); printf "%s: %s proved, %d of %d\n", name, crate, count, all; fflush() }
+    ' "$root/crates.txt" - >&2
     [ "${PIPESTATUS[0]}" -eq 0 ] || { cat "$said" >&2; return 1; }
+}
+
+# What was built is put where it is called; one that is the same keeps its time, and one that is not comes whole, or not at all.
+put() { # BUILT TO
+    cmp -s "$1" "$2" && return
+    mkdir -p "${2%/*}" && cp "$1" "$2.new" && mv "$2.new" "$2"
 }

@@ -1,6 +1,6 @@
 /* The proved step of a depot's box, for C and C++.
 
-   Link libdepot_link.a, which `rt staticlib depot_link` proves and writes to target/staticlib (x86-64 Linux). Words lie as
+   Link libdepot_link.a, which `bin/build-library` proves and writes to target/staticlib (x86-64 Linux). Words lie as
    docs/LAYOUT.md says; docs/OPERATING.md has what a caller owes, with the limits and what to do on each refusal.
    examples/c/three_depots.c is a whole program.
 
@@ -20,7 +20,7 @@
    A box takes 61,056 bytes, all lent by the caller: no call allocates, and none keeps anything between calls. So a box is one thread's at
    a time, and different boxes may be stepped by different threads at once.
 
-   Stack: a step touches about 162 KB of its thread's stack. Give a thread that steps DEPOTS_STACK bytes (256 KB) or more; one of 128 KB
+   Stack: a step touches about 213 KB of its thread's stack. Give a thread that steps DEPOTS_STACK bytes (256 KB) or more; one of 128 KB
    dies. examples/c/stack.c measures it. */
 #ifndef DEPOTS_H
 #define DEPOTS_H
@@ -110,7 +110,8 @@ enum {
 };
 
 /* Where things lie. A ballot is three words: round, priority, pid. A number is two: session, counter.
-   A word that a kind or a tag does not use may hold anything: do not read it. */
+   A word that a kind or a tag does not use is 0 after a step that is taken. Nothing else of it matters, but that a word above its most
+   (docs/LAYOUT.md) makes its whole block mean nothing, used or not. */
 enum {
     DEPOTS_BALLOT_AT_ROUND = 0,
     DEPOTS_BALLOT_AT_PRIORITY = 1,

@@ -1,4 +1,4 @@
-//! Links the proved library: `rt staticlib depot_link` writes it to target/staticlib; DEPOTS_LIB names another folder.
+//! Links the proved library: `bin/build-library` writes it to target/staticlib; DEPOTS_LIB names another folder.
 
 use std::path::Path;
 
@@ -21,7 +21,7 @@ fn main() {
 /// What to do where the archive is not there.
 fn missing(named: Option<&str>) -> String {
     match named {
-        Some(folder) => format!("DEPOTS_LIB names {folder}, which holds no {ARCHIVE}: unset it, or name the folder that `rt staticlib depot_link` wrote it to"),
-        None => format!("target/staticlib/{ARCHIVE} is not built: run `rt staticlib depot_link` in the project's root, which proves it and writes it"),
+        Some(folder) => format!("DEPOTS_LIB names {folder}, which holds no {ARCHIVE}: unset it, or name the folder that `bin/build-library` wrote it to"),
+        None => format!("target/staticlib/{ARCHIVE} is not built: run `bin/build-library` in the project's root, which proves it and writes it"),
     }
 }

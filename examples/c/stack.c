@@ -1,4 +1,4 @@
-/* How much of its thread's stack a step touches. From the project's root, with the archive built (`rt staticlib depot_link`):
+/* How much of its thread's stack a step touches. From the project's root, with the archive built (`bin/build-library`):
 
        cc -std=c11 -Wall -Wextra -Iinclude examples/c/stack.c target/staticlib/libdepot_link.a -lpthread -o stack && ./stack
 

@@ -1,5 +1,5 @@
 /* Three depots in one process: a leader is elected, entries are proposed, a message is lost, a box loses its power, and in the end the
-   books are equal. From the project's root, with the archive built (`rt staticlib depot_link`):
+   books are equal. From the project's root, with the archive built (`bin/build-library`):
 
        cc -std=c11 -Wall -Wextra -Iinclude examples/c/three_depots.c target/staticlib/libdepot_link.a -o three_depots && ./three_depots
 

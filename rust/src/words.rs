@@ -1,7 +1,7 @@
 //! The words of a box (docs/LAYOUT.md): how many there are, where things lie in them, and the numbers of kinds and events.
 //!
 //! Everything is laid out in blocks of 16 words: word k of block i is word 16 i + k of the slice. A word that a kind or a tag does
-//! not use may hold anything: read none that the tables of docs/LAYOUT.md do not give.
+//! not use is 0 after a step that is taken; a word above its most makes its block mean nothing, used or not (docs/LAYOUT.md).
 
 /// Words of a block.
 pub const BLOCK: usize = 16;

@@ -127,26 +127,23 @@ fn in_words(random: &mut Random, w: &mut Words, last: usize, way: u64) -> Option
             None
         }
         _ => {
-            meaningless(random, w, last);
+            meaningless(random, w);
             Some("2: words that mean no record or no row")
         }
     }
 }
 
-/// A used word above its most, in the record or in a head that waits; where the tag that uses it is not set, it is set too.
-fn meaningless(random: &mut Random, w: &mut Words, last: usize) {
+/// A word above its most, in the record or in any head.
+fn meaningless(random: &mut Random, w: &mut Words) {
     if random.one_in(3) {
-        let head = random.below(last as u64 / 16 + 1) as usize * 16;
-        let (kind, at, word) = *random.pick(&[(9, 1, 9), (2, 12, 2), (0, 2, 1 << 32), (1, 6, 1 << 32)]);
-        w.row[head + 1] = kind;
+        let head = 16 * random.below(64) as usize;
+        let (at, word) = *random.pick(&[(1, 9), (12, 2), (2, 1 << 32), (6, 1 << 32)]);
         w.row[head + at] = word;
         return;
     }
-    let place = 80 + 16 * random.below(w.configuration[0]) as usize;
-    let tags = [(8, 2, 8), (9, 4, 8), (35, 2, 35), (54, 2, 54), (64, 2, 64), (73, 2, 64), (place, 3, place), (place + 10, 2, place)];
-    let ballots = [(0, 1 << 32, 8), (1, 1 << 32, 8), (4, u64::MAX, 8), (36, 1 << 32, 35), (49, 1 << 33, 8), (66, 1 << 40, 64), (place + 2, 1 << 32, place)];
-    let (at, word, tag) = if random.one_in(2) { *random.pick(&tags) } else { *random.pick(&ballots) };
-    w.record[tag] = 1;
+    let tags = [(8, 2), (9, 4), (35, 2), (54, 2), (64, 2), (73, 2), (80, 3), (176, 3), (90, 2)];
+    let ballots = [(0, 1 << 32), (1, 1 << 32), (4, u64::MAX), (66, 1 << 40)];
+    let (at, word) = if random.one_in(2) { *random.pick(&tags) } else { *random.pick(&ballots) };
     w.record[at] = word;
 }
 

@@ -13,7 +13,6 @@ mod rules;
 mod script;
 mod short;
 mod tape;
-mod used;
 
 use rules::Table;
 use script::{Found, Script};

@@ -1,11 +1,10 @@
 // One depot's box on both sides. A step is given to both, and everything that they keep is compared after it.
 use crate::expect::{self, Rule};
-use crate::port::{event_words, Answer, Words};
+use crate::port::{event_words, put_place, Answer, Words};
 use crate::random::Random;
 use crate::rules::{self, Table};
 use crate::script::show_state;
 use crate::tape::{self, Taped};
-use crate::used::{self, Filling};
 use omnipaxos::plain::*;
 use omnipaxos::Node;
 use std::sync::atomic::{AtomicU64, Ordering};
@@ -18,7 +17,6 @@ pub struct Pair {
     pub state: State,
     found: Words,
     id: u64,
-    filler: Random,
 }
 
 /// Boxes are told apart on the tape.
@@ -33,7 +31,7 @@ pub struct Outcome {
     pub handed_out: Vec<Sent>,
 }
 
-/// Where the two sides, or the port and the rules, part.
+/// Where the two sides, or the port and document 01, part.
 #[derive(Debug)]
 pub struct Difference(pub String);
 
@@ -44,14 +42,17 @@ fn differ<T>(text: String) -> Result<T, Difference> {
 impl Pair {
     pub fn fresh(cluster: Cluster, pid: u64) -> Pair {
         let words = Words::fresh(cluster, pid);
-        Pair { cluster, pid, found: words.clone(), words, node: Node::fresh(cluster, pid), state: State::fresh(cluster.depots), id: next_id(), filler: Random::seeded(pid) }
+        Pair { cluster, pid, found: words.clone(), words, node: Node::fresh(cluster, pid), state: State::fresh(cluster.depots), id: next_id() }
     }
 
-    /// Both sides into a state; the text's side only where the record is not broken.
+    /// Both sides into a state; the text's side only where the record is not broken. Places past the depots get words that mean something.
     pub fn load(&mut self, s: &State, random: &mut Random) {
         self.state = s.clone();
         self.id = next_id();
-        self.filler = random.clone();
+        for w in self.words.record.chunks_mut(16).skip(5 + s.places.len()) {
+            let promised = *random.pick(&[Promised::No, Promised::Higher, Promised::Yes(Meta { accepted: 999, pid: 9, ..Meta::default() })]);
+            put_place(w, &Place { promised, number: (random.below(9), 9), accepted: 999, latest: Some(99) });
+        }
         self.words.load(s, random);
         self.node.load(s);
     }
@@ -62,41 +63,20 @@ impl Pair {
 
     /// One step on both sides. `raw`: why the words as lent are to be refused with 2 where the state does not show it.
     pub fn step(&mut self, e: &Event, table: &mut Table, raw: Option<Rule>) -> Result<Outcome, Difference> {
-        let (event, entries) = self.fill_unused(e);
         self.found.clone_from(&self.words);
-        let answer = self.words.step_words(&event, &entries);
+        let answer = self.words.step(e);
         let outcome = self.compare(e, answer, table, raw)?;
         if tape::runs() {
+            let (event, entries) = event_words(e);
             let checksum = if outcome.no == 0 { tape::checksum(&self.words_of_rust()) } else { tape::checksum(&self.found) };
             tape::put(self.id, &self.found, Taped { event, entries, answer: [answer.no as u64, answer.dropped, answer.handed_out], checksum });
         }
         Ok(outcome)
     }
 
-    /// Words that mean nothing wherever nothing is used, of the box and of the event; on the tape only in whole places and heads, and there one word.
-    fn fill_unused(&mut self, e: &Event) -> (Vec<u64>, Vec<u64>) {
-        let (mut event, entries) = event_words(e);
-        let random = &mut self.filler;
-        let Some(filling) = used::filling(random) else { return (event, entries) };
-        let w = &mut self.words;
-        let (depots, waiting) = (w.configuration[0], w.record[10]);
-        if tape::runs() {
-            let word = random.below(9);
-            w.record.iter_mut().skip(80 + 16 * depots.min(7) as usize).for_each(|w| *w = word);
-            w.row.iter_mut().skip(16 * waiting.min(64) as usize).for_each(|w| *w = word);
-            return (event, entries);
-        }
-        let filling = if random.one_in(9) { Filling::Same(random.next()) } else { filling };
-        let masks = [used::configuration(&w.configuration), used::record(&w.record, depots), used::row(&w.row, waiting), used::event(&event)];
-        for (words, used) in [&mut w.configuration, &mut w.record, &mut w.row, &mut event].into_iter().zip(&masks) {
-            used::fill(words, used, &filling, random);
-        }
-        (event, entries)
-    }
-
-    /// The state that the Rust and the rules came to, as words; and the book, which was compared.
+    /// The state that the Rust and document 01 came to, as words; the book, which was compared, and the places past the depots as they are.
     fn words_of_rust(&self) -> Words {
-        let mut w = Words { book: self.words.book.clone(), ..Words::fresh(self.cluster, self.pid) };
+        let mut w = Words { record: self.words.record.clone(), book: self.words.book.clone(), ..Words::fresh(self.cluster, self.pid) };
         w.load(&self.state, &mut Random::seeded(0));
         w
     }
@@ -151,7 +131,7 @@ impl Pair {
         Ok(Outcome { no: 0, handed_out })
     }
 
-    /// What the crate keeps over a restart must be what R12.1 keeps; the rest is set as R12.1 has it.
+    /// What the crate keeps over a restart must be what document 01 keeps; the rest is set as document 01 has it.
     fn check_restart(&self, after: &mut State) -> Result<(), Difference> {
         let depots = self.cluster.depots;
         let expected = expect::restarted_by_text(depots, self.pid, &self.state);
@@ -165,7 +145,7 @@ impl Pair {
     fn compare_taken(&self, e: &Event, answer: Answer, after: &State, dropped: u64, handed_out: &[Sent]) -> Result<(), Difference> {
         let should = Answer { no: 0, dropped, handed_out: handed_out.len() as u64 };
         if answer != should {
-            return differ(format!("the port answers {answer}, the Rust and the rules give {should}"));
+            return differ(format!("the port answers {answer}, the Rust and document 01 give {should}"));
         }
         let port = self.words.state(self.cluster.depots);
         if port != *after {
@@ -185,17 +165,9 @@ impl Pair {
             return differ("the book".to_string());
         }
         self.compare_queue(after)?;
-        self.compare_unused()
-    }
-
-    /// What nothing uses after a step is as found.
-    fn compare_unused(&self) -> Result<(), Difference> {
-        let (w, found) = (&self.words, &self.found);
-        if let Some(k) = used::altered(&w.record, &used::record(&w.record, self.cluster.depots), &found.record) {
-            return differ(format!("word {k} of the record, which nothing uses, was altered"));
-        }
-        if let Some(k) = used::altered(&w.row, &used::row(&w.row, w.record[10]), &found.row) {
-            return differ(format!("word {k} of the row, which nothing uses, was altered"));
+        let past = 80 + 16 * self.cluster.depots as usize;
+        if self.words.record[past..] != self.found.record[past..] {
+            return differ("a place past the depots".to_string());
         }
         Ok(())
     }
@@ -222,7 +194,7 @@ impl Pair {
     /// The port must have refused with this number, and left everything as found.
     fn refused(&mut self, answer: Answer, no: u32, rule: Rule, table: &mut Table) -> Result<Outcome, Difference> {
         if answer != (Answer { no, dropped: 0, handed_out: 0 }) {
-            return differ(format!("the port answers {answer}, the rules give {no} ({rule})"));
+            return differ(format!("the port answers {answer}, document 01 gives {no} ({rule})"));
         }
         if self.words != self.found {
             return differ(format!("refused with {no}, yet something was altered"));

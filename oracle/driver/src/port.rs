@@ -231,6 +231,11 @@ impl Words {
         Answer { no, dropped, handed_out }
     }
 
+    pub fn step(&mut self, e: &Event) -> Answer {
+        let (event, entries) = event_words(e);
+        self.step_words(&event, &entries)
+    }
+
     /// Message k of the row, with its entries.
     pub fn sent(&self, k: usize) -> Sent {
         let w = &self.row[16 * k..16 * k + 16];
@@ -284,7 +289,7 @@ impl Words {
         }
     }
 
-    /// Writes a state as words, 0 where nothing is used as far as the depots go. Cells that mean nothing keep what they hold; entries lie in the store with gaps, messages in any order.
+    /// Writes a state as words. Cells that mean nothing keep what they hold; entries lie in the store with gaps, messages in any order.
     pub fn load(&mut self, s: &State, random: &mut Random) {
         let r = &mut self.record;
         // places past the depots keep what they hold
@@ -368,7 +373,7 @@ impl Words {
 }
 
 /// One depot's place.
-fn put_place(w: &mut [u64], p: &Place) {
+pub fn put_place(w: &mut [u64], p: &Place) {
     w.fill(0);
     match p.promised {
         Promised::No => (),

@@ -1,6 +1,5 @@
-// A tape of what is compared, from which the fixed list is cut: where each box started, and every step with what the Rust and the rules make of it.
+// A tape of what is compared, from which the fixed list is cut: where each box started, and every step with what the Rust and document 01 make of it.
 use crate::port::Words;
-use crate::used;
 use std::cell::RefCell;
 
 pub struct Taped {
@@ -62,24 +61,17 @@ fn part(words: &[u64], from: u64, count: u64) -> &[u64] {
     &words[from..from + (count as usize).min(words.len() - from)]
 }
 
-/// The words where they are used, and 0 elsewhere.
-fn used_words(words: &[u64], used: &[bool]) -> Vec<u64> {
-    words.iter().zip(used).map(|(w, used)| if *used { *w } else { 0 }).collect()
-}
-
-/// The checksum of all that means something: the record as far as the depots go, log, both syncs, book, and the queue message by message with its entries. A word that is not used counts as 0.
+/// The checksum of all that means something: record, log, both syncs, book, and the queue message by message with its entries.
 pub fn checksum(w: &Words) -> u64 {
-    let depots = w.configuration[0].min(7);
-    let r = &used_words(&w.record, &used::record(&w.record, depots));
-    let row = &used_words(&w.row, &used::row(&w.row, r[10]));
+    let r = &w.record;
     let mut sum = mix_all(1, &r[..16]);
     sum = mix_all(sum, part(&r[16..32], 0, r[13]));
-    sum = mix_all(sum, &r[32..80 + 16 * depots as usize]);
+    sum = mix_all(sum, &r[32..]);
     sum = mix_all(sum, part(&w.log, 0, r[7]));
     sum = mix_all(sum, part(&w.cached, 0, r[75]));
     sum = mix_all(sum, part(&w.best, 0, r[56]));
     sum = mix_all(sum, &w.book);
-    for head in row.chunks(16).take(r[10].min(64) as usize) {
+    for head in w.row.chunks(16).take(r[10].min(64) as usize) {
         sum = mix_all(sum, &head[..14]);
         sum = mix(sum, head[15]);
         sum = mix_all(sum, part(&w.store, head[14], head[15]));

@@ -17,6 +17,8 @@ pub struct Cluster {
     /// `links[from][to]`, places counted from 0; first in, first out.
     pub links: Vec<Vec<VecDeque<Travelling>>>,
     pub story: Story,
+    /// Whether it tells of steps that changed nothing, and of entries in words.
+    pub tells: bool,
     /// The messages of each depot's queue, by their places in the story.
     queued: Vec<Vec<usize>>,
     old_rule: bool,
@@ -37,12 +39,13 @@ enum Fate {
 }
 
 impl Cluster {
-    pub fn new(depots: u64, sizes: Option<(u64, u64)>) -> Cluster {
+    pub fn new(depots: u64, sizes: Option<(u64, u64)>, tells: bool) -> Cluster {
         let n = depots as usize;
         Cluster {
             depots: (1..=depots).map(|pid| Depot::fresh(depots, pid, sizes)).collect(),
             links: (0..n).map(|_| (0..n).map(|_| VecDeque::new()).collect()).collect(),
             story: Story::new(n),
+            tells,
             queued: vec![Vec::new(); n],
             old_rule: false,
         }
@@ -104,7 +107,7 @@ impl Cluster {
     /// One step that is no message and no drain.
     fn event(&mut self, at: usize, event: [u64; words::BLOCK], entries: &[u64], words: String) -> Result<Vec<String>, Reason> {
         let step = self.step(at, event, entries);
-        let said = told(&step, "taken, nothing changed");
+        let said = self.told(&step, "taken, nothing changed");
         self.story.add(What::Event { at, words }, step.answered, step.effects);
         Ok(vec![format!("    {said}")])
     }
@@ -113,7 +116,7 @@ impl Cluster {
         let waiting = queue_of(&self.depots[at]);
         let ids = self.queued[at].clone();
         let step = self.step(at, words::event(words::DRAIN), &[]);
-        let mut lines = vec![format!("    {}", told(&step, "taken, nothing to hand out"))];
+        let mut lines = vec![format!("    {}", self.told(&step, "taken, nothing to hand out"))];
         if step.answer.no != 0 {
             self.story.add(What::Sends { at, messages: Vec::new() }, step.answered, step.effects);
             return Ok(lines);
@@ -160,7 +163,7 @@ impl Cluster {
         event[14] = words::MESSAGE;
         event[15] = 0;
         let step = self.step(to, event, &message.entries);
-        let said = told(&step, "ignored, nothing changed");
+        let said = self.told(&step, "ignored, nothing changed");
         self.story.end(id);
         self.story.add(What::Arrives { message: id }, step.answered, step.effects);
         format!("    {}: {said}", message.told())
@@ -209,6 +212,22 @@ impl Cluster {
         effects
     }
 
+    /// What a step answered; `unchanged` is told of one that was taken and changed nothing.
+    fn told(&self, step: &Step, unchanged: &str) -> String {
+        let mut s = match step.answered {
+            Answered::Unchanged if self.tells => unchanged.to_string(),
+            Answered::Taken | Answered::Unchanged => "taken".to_string(),
+            Answered::Refused(n) => tell::refusal(n),
+        };
+        if step.answer.dropped > 0 {
+            s += &format!(", {} buffered entries dropped", step.answer.dropped);
+        }
+        if step.answer.handed_out > 0 {
+            s += &format!(", {} handed out", step.answer.handed_out);
+        }
+        s
+    }
+
     /// The first place in which two depots decided different entries, in words.
     pub fn difference(&self) -> Option<String> {
         for (i, a) in self.depots.iter().enumerate() {
@@ -245,22 +264,6 @@ fn queue_of(depot: &Depot) -> Vec<Message> {
         head
     };
     depot.queue().map(|(head, entries)| Message { head: plain(head), entries: entries.to_vec() }).collect()
-}
-
-/// What a step answered; `unchanged` is said of one that was taken and changed nothing.
-fn told(step: &Step, unchanged: &str) -> String {
-    let mut s = match step.answered {
-        Answered::Taken => "taken".to_string(),
-        Answered::Unchanged => unchanged.to_string(),
-        Answered::Refused(n) => tell::refusal(n),
-    };
-    if step.answer.dropped > 0 {
-        s += &format!(", {} buffered entries dropped", step.answer.dropped);
-    }
-    if step.answer.handed_out > 0 {
-        s += &format!(", {} handed out", step.answer.handed_out);
-    }
-    s
 }
 
 fn joined(old: &Message, new: &Message) -> String {

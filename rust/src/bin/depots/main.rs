@@ -36,6 +36,7 @@ enum Stop {
 /// All that ran: the cluster at work, and those before it where a chart of them is asked for.
 struct Runs {
     keeps_past: bool,
+    tells: bool,
     past: Vec<Cluster>,
     now: Option<Cluster>,
 }
@@ -54,7 +55,7 @@ impl Runs {
     fn run(&mut self, number: usize, text: &str, comment: &str) -> Result<Vec<String>, tell::Reason> {
         let command = script::read(text)?;
         if let Command::Cluster { depots, sizes } = command {
-            self.start(Cluster::new(depots, sizes));
+            self.start(Cluster::new(depots, sizes, self.tells));
             return Ok(Vec::new());
         }
         let cluster = self.now.as_mut().ok_or("the first line is `cluster DEPOTS`")?;
@@ -118,7 +119,7 @@ fn run(options: &Options) -> ExitCode {
         Ok(fd) => BufWriter::new(File::from(fd)),
         Err(e) => return unwritable(&e),
     };
-    let mut runs = Runs { keeps_past: options.chart || options.svg.is_some(), past: Vec::new(), now: None };
+    let mut runs = Runs { keeps_past: options.chart || options.svg.is_some(), tells: options.tell, past: Vec::new(), now: None };
     let ran = match options.chart {
         true => run_all(&mut script, &mut io::sink(), &mut runs),
         false => run_all(&mut script, &mut out, &mut runs),

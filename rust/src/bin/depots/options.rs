@@ -13,6 +13,8 @@ pub struct Options {
     /// The script's file; standard input where there is none.
     pub script: Option<OsString>,
     pub chart: bool,
+    /// In words of the yard, and with what was ignored.
+    pub tell: bool,
     pub svg: Option<OsString>,
 }
 
@@ -29,6 +31,7 @@ pub fn read(words: impl Iterator<Item = OsString>) -> Result<Call, String> {
             Some("--help") => return Ok(Call::Help),
             Some("--version") => return Ok(Call::Version),
             Some("--chart") => options.chart = true,
+            Some("--tell") => options.tell = true,
             Some("--svg") => options.svg = Some(svg_name(words.next())?),
             Some("-") => named.push(word),
             Some(other) if other.starts_with('-') => return Err(format!("`{other}` is no option")),

@@ -1,4 +1,4 @@
-//! The table of the depots, and what each has decided, in words.
+//! The table of the depots, and what each has decided: as a script writes it, or told in words.
 
 use crate::cluster::{days, written, Cluster};
 use crate::tell;
@@ -8,9 +8,12 @@ pub fn lines(cluster: &Cluster) -> Vec<String> {
     let mut lines = vec!["    depot role     phase   promise    round      log decided buffered queue  days".to_string()];
     lines.extend(cluster.depots.iter().enumerate().map(|(i, depot)| row(i + 1, depot)));
     for (i, depot) in cluster.depots.iter().enumerate() {
-        lines.extend(standing(i + 1, depot).into_iter().map(|line| format!("    {line}")));
+        let standing = if cluster.tells { standing(i + 1, depot) } else { written_out(i + 1, depot) };
+        lines.extend(standing.into_iter().map(|line| format!("    {line}")));
     }
-    lines.push(format!("    {}", verdict(cluster)));
+    if cluster.tells {
+        lines.push(format!("    {}", verdict(cluster)));
+    }
     for (i, row) in cluster.links.iter().enumerate() {
         for (j, link) in row.iter().enumerate() {
             let on_its_way = link.iter().map(|m| format!("    on its way from {} to {}: {}", i + 1, j + 1, m.message.told()));
@@ -27,6 +30,20 @@ fn row(pid: usize, depot: &Depot) -> String {
     let (promise, round) = (tell::ballot(&r[0..3]), tell::ballot(&r[3..6]));
     let days = days(depot);
     format!("    {pid:<5} {role:<8} {phase:<7} {promise:<10} {round:<10} {:<3} {:<7} {:<8} {:<6} {days}", r[7], r[6], r[13], r[10])
+}
+
+/// A depot's entries as a script writes them, in one line, and a line for each of its pumps.
+fn written_out(pid: usize, depot: &Depot) -> Vec<String> {
+    let all: Vec<String> = written(depot).iter().map(|e| tell::entry(*e)).collect();
+    let decided = depot.decided().len().min(all.len());
+    let mut lines = vec![format!("depot {pid}: decided [{}], not decided [{}]", all[..decided].join(" "), all[decided..].join(" "))];
+    let pumps = depot.book.chunks_exact(3).enumerate().filter_map(|(pump, cells)| match (cells[1], cells[2]) {
+        (0, 0) => None,
+        (0, days) => Some(format!("  pump {pump}: in the yard, {days} days charged")),
+        (out, days) => Some(format!("  pump {pump}: away since day {}, {days} days charged", out - 1)),
+    });
+    lines.extend(pumps);
+    lines
 }
 
 /// What a depot has decided and what it has only written down, entry by entry, and where its pumps are.
