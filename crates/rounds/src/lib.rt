@@ -1,7 +1,7 @@
 // Three depots at work, told in words: a step, a drain with its deliveries and losses, drains until all queues are empty, and a table of the depots.
 #![tactic(auto)]
 
-ghost use Rattle.std.specs.Prelude.{◌≡◌, OnOk};
+ghost use Rattle.std.specs.Prelude.{◌≡◌};
 ghost use Rattle.hire_book.specs.Step.{told, total_step};
 ghost use Rattle.cluster.specs.Cluster.{step_at};
 ghost use Rattle.rounds.specs.Drains.{carry_at, drained, waits_at, next_sender, settled};
@@ -25,7 +25,23 @@ pub fn say_head(rt: &impl Print, from: Site, head: Head) -> io::Result<()> {
     say_entries(rt, storage::part(&store, start, count))
 }
 
-// One step of a depot, told in words.
+// The first of two tellings that failed.
+fn first_failed(a: io::Result<()>, b: io::Result<()>) -> io::Result<()> {
+    match a {
+        Ok(()) => b,
+        Err(e) => Err(e),
+    }
+}
+
+fn say_act(rt: &impl Print, pid: u64, what: &str, entries: &[u64], no: u32) -> io::Result<()> {
+    say_number(rt, "depot ", pid)?;
+    say(rt, what)?;
+    say_entries(rt, entries)?;
+    say_answer(rt, no)?;
+    say(rt, "\n")
+}
+
+// One step of a depot, told in words. It is taken whether or not the words could be written.
 pub fn act(
     rt: &impl Print,
     c: &mut Cluster,
@@ -34,52 +50,58 @@ pub fn act(
     e: Event,
     entries: &[u64],
 ) -> io::Result<()>
-    ensures { OnOk result (c.new ≡ (step_at pid e entries.now c.old).cluster) }
+    ensures { c.new ≡ (step_at pid e entries.now c.old).cluster }
 {
-    say_number(rt, "depot ", pid)?;
-    say(rt, what)?;
-    say_entries(rt, entries)?;
     let m = c.step(pid, e, entries);
     let answer = m.answer;
     *c = m.cluster;
-    say_answer(rt, answer.no)?;
+    say_act(rt, pid, what, entries, answer.no)
+}
+
+fn say_lost(rt: &impl Print, sender: Site, head: Head) -> io::Result<()> {
+    say_head(rt, sender, head)?;
+    say(rt, ": LOST\n")
+}
+
+fn say_brought(rt: &impl Print, sender: Site, head: Head, no: u32) -> io::Result<()> {
+    say_head(rt, sender, head)?;
+    say_answer(rt, no)?;
     say(rt, "\n")
 }
 
 // The message at a place of a depot's row arrives, or is lost where it goes to the depot `lost`.
 fn carry(rt: &impl Print, c: &mut Cluster, from: u64, at: usize, lost: u64) -> io::Result<()>
-    ensures { OnOk result (c.new ≡ carry_at from lost at c.old) }
+    ensures { c.new ≡ carry_at from lost at c.old }
 {
     let sender = c.site(from);
     let head = sender.head(at);
-    say_head(rt, sender, head)?;
     if head.to == lost {
-        say(rt, ": LOST\n")?;
-        return Ok(());
+        return say_lost(rt, sender, head);
     }
     let m = c.deliver(from, at);
     let answer = m.answer;
     *c = m.cluster;
-    say_answer(rt, answer.no)?;
-    say(rt, "\n")?;
-    Ok(())
+    say_brought(rt, sender, head, answer.no)
 }
 
-// A depot's queue is drained, and each message arrives in order, but those to the depot `lost` (0: none is lost).
+// A depot's queue is drained, and each message arrives in order, but those to the depot `lost` (0: none is lost). What cannot be written stops nothing: the first
+// failure is answered at the end.
 pub fn drain(rt: &impl Print, c: &mut Cluster, from: u64, lost: u64) -> io::Result<()>
-    ensures { OnOk result (c.new ≡ drained from lost c.old) }
+    ensures { c.new ≡ drained from lost c.old }
 {
     let none = [0u64; 0];
     let m = c.step(from, Event::Drain, &none);
     let answer = m.answer;
     let count = answer.handed_out;
     *c = m.cluster;
+    let mut told: io::Result<()> = Ok(());
     let mut at: usize = 0;
     while at < count {
-        carry(rt, c, from, at, lost)?;
+        let one = carry(rt, c, from, at, lost);
+        told = first_failed(told, one);
         at += 1;
     }
-    Ok(())
+    told
 }
 
 // How many messages wait in a depot's queue.
@@ -131,18 +153,20 @@ fn next_sender(c: Cluster) -> u64
 
 // Queues are drained and messages arrive until all queues are empty, or so many drains were made.
 pub fn settle(rt: &impl Print, c: &mut Cluster, drains: u64) -> io::Result<()>
-    ensures { OnOk result (c.new ≡ settled drains c.old) }
+    ensures { c.new ≡ settled drains c.old }
 {
+    let mut told: io::Result<()> = Ok(());
     let mut left = drains;
     while left > 0 {
         let from = next_sender(*c);
         if from == 0 {
-            return Ok(());
+            return told;
         }
-        drain(rt, c, from, 0)?;
+        let one = drain(rt, c, from, 0);
+        told = first_failed(told, one);
         left -= 1;
     }
-    Ok(())
+    told
 }
 
 // The stored days of a book; 0 where it is refused.

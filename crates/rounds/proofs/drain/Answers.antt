@@ -8,7 +8,7 @@ pub loop-at-init : goal.loop-at-init
 loop-at-init g c = (search rules, carry-none c.args.from c.args.lost _)
 
 pub loop-at-preserved : goal.loop-at-preserved
-loop-at-preserved g c = (search rules, carry-more c.args.from c.args.lost c.loop-at.at _ _ _ c.loop-at.invariant.1 c.in_ok-carry.ensures)
+loop-at-preserved g c = (search rules, carry-more c.args.from c.args.lost c.loop-at.at _ _ _ c.loop-at.invariant.1 c.carry-one.ensures)
 
 pub returns : goal.returns
 returns g c = drained-all c.args.from c.args.lost c.loop-at.at c.args.c.now c.loop-at.c c.step-m.result c.step-m.ensures (omega arith) c.loop-at.invariant.1
