@@ -1,5 +1,5 @@
 -- The theorems of `agreement`: THE CORE is `agreement` (Agree). Growth and Moves: C1 to C3 live on. Decided, Hold, Report, Lead: what a protocol supplies at each move, and
--- what it gets. Stream, Flow, Queue: what is under way. Proposed: nothing is made up. Sample: the facts can all hold, and something can be chosen.
+-- what it gets. Stream, Flow, Queue: what is under way. Proposed: nothing is made up. Often: counting. Sample: the facts can all hold, and something can be chosen.
 pub mod Order
 pub mod Same
 pub mod Update
@@ -15,4 +15,5 @@ pub mod Lead
 pub mod Flow
 pub mod Queue
 pub mod Proposed
+pub mod Often
 pub mod Sample

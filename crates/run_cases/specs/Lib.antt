@@ -3,4 +3,6 @@ pub mod Seen
 pub mod Old
 pub mod Loose
 pub mod Moves
+pub mod Parted
+pub mod Stepping
 pub mod Cases

@@ -1,10 +1,10 @@
 -- Laws of how often a number stands in a list.
-use Prim.Native.Nat.{ℕ, zero, suc, _+_, _≤_}
-use mathlib.Core.Path.{_≡_}
-use mathlib.Core.List.{List, [], _∷_, _++_}
+use Prim.Native.Nat.{ℕ, zero, suc, ◌+◌, ◌≤◌}
+use mathlib.Core.Path.{◌≡◌}
+use mathlib.Core.List.{List, [], ◌∷◌, ◌++◌}
 use native.Mathlib.Omega.{arith}
 use lib.ListN.{take}
-use Rattle·agreement·specs.specs.Often.{often}
+use Rattle.agreement.specs.Often.{often}
 
 pub often-append : (e : ℕ) (l r : List ℕ) → often e (l ++ r) ≡ often e l + often e r
 often-append e [] r = omega arith

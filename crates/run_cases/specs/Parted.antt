@@ -1,9 +1,8 @@
 -- What the runs of `run_links`, `run_restarts` and `run_quorums` share. Depot i has the pid i + 1.
-use Prim.Native.Nat.{ℕ, _+_}
-use mathlib.Core.List.{List, [], _∷_, _++_}
-use Rattle·runs.specs.Runs.{Move, deliver, drain, propose, leader}
-use Rattle·run_cases·specs.specs.Seen.{Seen, having}
-use Rattle·run_cases·specs.specs.Moves.{ballot, out, other}
+use Rattle.std.specs.Prelude.{ℕ, ◌+◌, List, [], ◌∷◌, ◌++◌}
+use Rattle.runs.specs.Runs.{Move, deliver, drain, propose, leader}
+use Rattle.run_cases.specs.Seen.{Seen, having}
+use Rattle.run_cases.specs.Moves.{ballot, out, other}
 
 -- depot i is elected in a round by the promise of depot j, with an entry to propose; then depot j accepts what depot i has, and depot i decides it
 abbrev pub elected_by : ℕ → ℕ → ℕ → ℕ → List Move
