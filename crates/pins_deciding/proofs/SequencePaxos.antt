@@ -1,0 +1,7 @@
+-- Written by tools/pins --write, from the promises of crates/sequence_paxos/src: any two outcomes that a call's own promise allows are one.
+use mathlib.Core.Path.{sym, ◌∙◌}
+use Rattle.pins.proofs.One.{OneAnswer}
+use Rattle.sequence_paxos.proofs.decide.Reads as decide-reads
+
+pub decide : (κs : _) (a : _) → OneAnswer (decide-reads.Post κs a)
+decide κs a r₁ r₂ s₁ s₂ p q = p ∙ sym q

@@ -1,0 +1,3 @@
+-- Written by tools/pins --write. One outcome: what the programs share.
+pub mod Cluster
+pub mod Rounds
