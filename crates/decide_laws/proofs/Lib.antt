@@ -8,3 +8,4 @@ pub mod Leader
 pub mod Follower
 pub mod Steps
 pub mod Five
+pub mod Memory

@@ -1,2 +1,3 @@
 -- The definitions of `decide_laws`.
 pub mod Counts
+pub mod Memory
