@@ -1,0 +1,3 @@
+-- The definitions of `run_laws`.
+pub mod Begins
+pub mod Report
