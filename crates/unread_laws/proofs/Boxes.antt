@@ -1,10 +1,10 @@
 -- Two boxes that differ only past the depots' places: they stay so through every change of a field, a send, and a choice by a test that both answer alike.
-use Prim.Native.Nat.{ℕ, ◌-◌, ◌<◌, ◌≤◌}
+use Prim.Native.Nat.{ℕ, ◌-◌, ◌<◌}
 use mathlib.Core.Path.{◌≡◌, refl, sym, ap, subst, ◌∙◌}
 use mathlib.Core.Bool.{Bool, true, false, cond}
 use mathlib.Core.List.{List}
 use native.Mathlib.Omega.{arith}
-use lib.ListN.{get_or, set, take}
+use lib.ListN.{set}
 use Rattle.quorum.specs.declared.Configuration.{Configuration}
 use Rattle.leader_state.specs.declared.Depot as place
 use Rattle.leader_state.specs.declared.LeaderState.{LeaderState}

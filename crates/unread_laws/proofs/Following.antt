@@ -1,7 +1,7 @@
 -- What a follower does with each message, `reconnected`, a drain and a restart read and change no place past the depots.
 use Prim.Native.Nat.{ℕ, ◌+◌, min}
 use mathlib.Core.Path.{◌≡◌, refl, ap}
-use mathlib.Core.Bool.{Bool, true, false, cond}
+use mathlib.Core.Bool.{cond}
 use mathlib.Core.List.{List}
 use lib.Dec.{eqb, ltb}
 use Rattle.base.specs.Limits.{max_log}
@@ -19,7 +19,7 @@ use Rattle.leader_state.specs.declared.LeaderState.{LeaderState}
 use Rattle.leader_state.specs.declared.Latest.TheVariants as latest
 use Rattle.leader_state.specs.declared.HeldSync.{HeldSync}
 use Rattle.leader_state.specs.declared.HeldSync.TheVariants as held
-use Rattle.leader_state.specs.State.{with_depots, set_latest, with_of, forget_all}
+use Rattle.leader_state.specs.State.{with_depots, set_latest, forget_all}
 use Rattle.messages.specs.declared.AcceptSync.{AcceptSync}
 use Rattle.messages.specs.declared.Prepare.{Prepare}
 use Rattle.paxos_box.specs.declared.SequencePaxos.{SequencePaxos}
@@ -35,11 +35,11 @@ use Rattle.paxos_box.specs.declared.Standing.{Standing}
 use Rattle.paxos_box.specs.declared.Standing.TheVariants.{LeaderPrepare, LeaderAccept, FollowerPrepare, FollowerAccept, Other}
 use Rattle.paxos_box.specs.Box.{unfit, at_top, with_leader, set_meta, set_seq, set_cached, set_buffered, set_decided, next_place, is_recover, is_accept_phase, standing_of}
 use Rattle.sends.specs.declared.Each.TheVariants as each
-use Rattle.sends.specs.Sends.{log_length, sync_fits, send_prepare_req, for_marked, peers_of}
+use Rattle.sends.specs.Sends.{log_length, send_prepare_req}
 use Rattle.log_plan.specs.Log.{sync_end, sync_unfit, sync_log, append_given, has_leader, push_forward, forward_buffered}
 use Rattle.reconnect.specs.Reconnect.{recovering, left_leader, reconnected_of}
-use Rattle.accepting.specs.Accepting.{not_accepted, by_ballot, send_accepted, given_sync, acceptsync_put, following, acceptsync_taken, acceptsync_in, handle_acceptsync, counter_at_top, by_status, if_expected, latest_accepted, raise_accepted, reply_by, reply_accepted, update_decided, acceptdecide_taken, acceptdecide_fit, acceptdecide_expected, acceptdecide_in, handle_acceptdecide, decide_taken, decide_expected, decide_in_accept, handle_decide}
-use Rattle.follower.specs.Follower.{promised_sync, log_source, cached_source, build_fits, promise_of, send_promise, cache_promise, tell_promise, promise_to, prepare_taken, handle_prepare, prepare_reqs, resend_promise, resend_cached, resend_in, resend_messages_follower}
+use Rattle.accepting.specs.Accepting.{not_accepted, by_ballot, send_accepted, given_sync, acceptsync_put, following, acceptsync_taken, acceptsync_in, handle_acceptsync, counter_at_top, by_status, if_expected, latest_accepted, reply_by, reply_accepted, update_decided, acceptdecide_taken, acceptdecide_fit, acceptdecide_in, handle_acceptdecide, decide_taken, decide_in_accept, handle_decide}
+use Rattle.follower.specs.Follower.{promised_sync, build_fits, cache_promise, tell_promise, promise_to, prepare_taken, handle_prepare, prepare_reqs, resend_cached, resend_in, resend_messages_follower}
 use Rattle.outcome.specs.Outcome.{drained, restarted}
 use Rattle.refusals.proofs.Taken.{Depot}
 use Rattle.unread_laws.specs.InUse.{past_in, past_box}

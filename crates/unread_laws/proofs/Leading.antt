@@ -1,11 +1,10 @@
 -- What a leader does with each event reads and changes no place past the depots.
-use Prim.Native.Nat.{ℕ, ◌≤◌}
+use Prim.Native.Nat.{ℕ}
 use mathlib.Core.Path.{◌≡◌, refl, ap, sym, subst, ◌∙◌}
 use mathlib.Core.Bool.{Bool, true, false, cond}
 use mathlib.Core.List.{List}
 use native.Mathlib.Omega.{arith}
 use lib.Dec.{eqb, ltb}
-use Rattle.base.specs.Lists.{on_first}
 use Rattle.ballot.specs.Ballot.{above, same}
 use Rattle.ballot.specs.declared.Ballot.{Ballot}
 use Rattle.quorum.specs.Quorum.{reaches_read, reaches_write}
@@ -15,12 +14,11 @@ use Rattle.leader_state.specs.declared.LeaderState.{LeaderState}
 use Rattle.leader_state.specs.declared.PromiseMetaData.{PromiseMetaData}
 use Rattle.leader_state.specs.declared.PromiseState.TheVariants.{NotPromised, Promised, PromisedHigher}
 use Rattle.leader_state.specs.declared.Latest.TheVariants as latest
-use Rattle.leader_state.specs.declared.LogSync.{LogSync}
 use Rattle.leader_state.specs.declared.HeldSync.{HeldSync}
 use Rattle.leader_state.specs.declared.HeldSync.TheVariants.{Nothing, Held}
-use Rattle.leader_state.specs.State.{fresh, with_depots, with_best, with_depot, with_of, no_best, set_accepted, set_promise_state}
-use Rattle.leader_state.specs.Promises.{beats_best, best_after, promised_count, promise_kept, take_sync, max_decided}
-use Rattle.leader_state.specs.Places.{accepted_at, chosen, promised_followers, preparable_peers}
+use Rattle.leader_state.specs.State.{fresh, with_depots, with_best, with_of, set_accepted, set_promise_state}
+use Rattle.leader_state.specs.Promises.{beats_best, best_after, promised_count, promise_kept, max_decided}
+use Rattle.leader_state.specs.Places.{accepted_at, promised_followers, preparable_peers}
 use Rattle.leader_state.proofs.Past.{counts-alike, marked-alike}
 use Rattle.paxos_box.specs.declared.SequencePaxos.{SequencePaxos}
 use Rattle.paxos_box.specs.declared.Role.TheVariants.{Leader}
@@ -33,13 +31,13 @@ use Rattle.paxos_box.specs.declared.LogOp.TheVariants.{Keep}
 use Rattle.paxos_box.specs.Box.{unfit, with_leader, with_state, set_promised, set_decided, is_leader, standing_of}
 use Rattle.sends.specs.declared.Each.{Each}
 use Rattle.sends.specs.declared.Each.TheVariants as each
-use Rattle.sends.specs.Sends.{on_depot, log_length, set_latest_of, send_prepare, acc_sync_to, for_marked, peers_of}
+use Rattle.sends.specs.Sends.{on_depot, log_length, set_latest_of, for_marked, peers_of}
 use Rattle.paxos_box.specs.declared.Source.TheVariants.{Given}
 use Rattle.log_plan.specs.Log.{sync_end, sync_unfit, sync_log, append_given, append_buffered, buffer_given, has_leader, push_forward, forward_proposals}
 use Rattle.leader.specs.Leader.{for_followers, for_preparable, for_peers, own_meta, keep_promise, reached, new_leader, own_promise, become_leader, become_follower, handle_leader, prepare_again, handle_prepare_req, set_accepted_of, own_accepted, accept_entries_leader, proposal_in, handle_forwarded_proposal, change_of, put_op, leader_syncs, sync_held, sync_by, sync_with_best, sync_taken, handle_majority_promises, keep_sync, handle_promise_prepare, handle_promise_accept, brings_past, promise_in, handle_promise, newly_chosen, decide_if_chosen, accepted_taken, accepted_in, handle_accepted, lost_promise, handle_not_accepted, resend_in, resend_messages_leader}
 use Rattle.refusals.proofs.Taken.{Depot}
-use Rattle.unread_laws.specs.InUse.{mix, past_in, past_box}
-use Rattle.unread_laws.proofs.Mix.{mix_first, mix-take}
+use Rattle.unread_laws.specs.InUse.{past_in, past_box}
+use Rattle.unread_laws.proofs.Mix.{mix_first}
 use Rattle.unread_laws.proofs.Boxes.{Pair, lift, choose, push, on-depot, place_set, leaders-alike}
 use Rattle.unread_laws.proofs.Sending.{remember, sync-to, prepare, each-marked}
 

@@ -1,7 +1,7 @@
 -- Refusals 1 to 4 of every state are read off what is in use.
 use Prim.Native.Nat.{ℕ, zero, suc, ◌+◌, ◌-◌, ◌<◌, ◌≤◌}
 use mathlib.Core.Path.{◌≡◌, refl, sym, ap, ◌∙◌}
-use mathlib.Core.Bool.{Bool, true, false, ◌||◌}
+use mathlib.Core.Bool.{Bool, ◌||◌}
 use mathlib.Core.List.{List, [], ◌∷◌, map}
 use native.Mathlib.Omega.{arith}
 use lib.ListN.{length, get_or, take}
@@ -11,7 +11,7 @@ use Rattle.leader_state.specs.declared.Depot.{Depot}
 use Rattle.leader_state.specs.declared.LeaderState.{LeaderState}
 use Rattle.leader_state.specs.declared.HeldSync.{HeldSync}
 use Rattle.leader_state.specs.declared.HeldSync.TheVariants as held
-use Rattle.leader_state.specs.State.{fresh, with_depots, depot_of}
+use Rattle.leader_state.specs.State.{fresh, with_depots}
 use Rattle.messages.specs.declared.Head.{Head}
 use Rattle.messages.specs.declared.Row.{Row}
 use Rattle.messages.specs.declared.Event.{Event}
@@ -20,11 +20,10 @@ use Rattle.record.specs.declared.Record.{Record}
 use Rattle.hire_book.specs.Below.{any_below}
 use Rattle.hire_book.specs.Book.{any_above, broken_of}
 use Rattle.sight.specs.Sight.{head_at}
-use Rattle.heads.specs.Heads.{any_head, head_above, head_outside, heads_overlap, overlaps, any_overlap, head_foreign}
+use Rattle.heads.specs.Heads.{any_head, head_outside, heads_overlap, any_overlap, head_foreign}
 use Rattle.places.specs.Places.{any_place, place_past, misplaced, place_foreign}
-use Rattle.unfit.specs.Unfit.{stranger_of, unfit_of, either_foreign}
-use Rattle.broken.specs.Lent.{Lent}
-use Rattle.broken.specs.Broken.{decided_past, length_past, held_above, cached_sync, best_sync, kept_above, queued_above, over_limit, meta_past, position_past, head_off, promise_misplaced, sync_past, leader_off, cached_foreign, meta_foreign, kept_foreign, cached_default, state_broken, record_broken}
+use Rattle.unfit.specs.Unfit.{stranger_of, unfit_of}
+use Rattle.broken.specs.Broken.{decided_past, length_past, held_above, cached_sync, best_sync, kept_above, queued_above, over_limit, meta_past, position_past, head_off, sync_past, leader_off, kept_foreign, state_broken, record_broken}
 use Rattle.refusals.specs.Refusals.{wrong_call, call_off, first_of, refusal_of}
 use Rattle.outgoing.specs.Queue.{Msg, msg_of, lent, queue_of}
 use Rattle.step.specs.Step.{World}

@@ -1,21 +1,19 @@
 -- A taken restart keeps promise, accepted round, log and decided index, and leaves the rest as a fresh box has it; a box that kept only these four through a power cut steps on
 -- as the one that kept all.
-use Prim.Native.Nat.{ℕ, zero, suc, ◌+◌, ◌-◌, ◌<◌, ◌≤◌}
-use mathlib.Core.Path.{◌≡◌, refl, sym, ap, subst, ◌∙◌}
-use mathlib.Core.Bool.{Bool, true, false, cond}
-use mathlib.Core.List.{List, [], ◌∷◌, ◌++◌}
+use Prim.Native.Nat.{ℕ, zero, suc, ◌+◌, ◌-◌, ◌≤◌}
+use mathlib.Core.Path.{◌≡◌, refl, sym, ap, ◌∙◌}
+use mathlib.Core.Bool.{true}
+use mathlib.Core.List.{List, [], ◌∷◌}
 use native.Mathlib.Omega.{arith}
-use lib.Dec.{eqb, ltb}
-use lib.ListN.{length, get_or, take, drop, replicate, length-append, length-replicate, take-append-drop}
+use lib.Dec.{eqb}
+use lib.ListN.{length, get_or, take, replicate, length-append, length-replicate, take-append-drop}
 use lib.Seq.{length-take-le, take_at, take-take, get_or-take}
-use borrow.Author.Tests.{eqb-true, eq-eqb, le-ltb}
-use Rattle.base.specs.Limits.{max_log, max_buffered, max_messages, max_store}
+use borrow.Author.Tests.{eqb-true, le-ltb}
+use Rattle.base.specs.Limits.{max_log, max_messages, max_store}
 use Rattle.base.specs.Lists.{over, on_first}
 use Rattle.quorum.specs.declared.Configuration.{Configuration}
 use Rattle.quorum.proofs.Laws.{Stands}
-use Rattle.messages.specs.declared.Event.{Event}
 use Rattle.messages.specs.declared.Event.TheVariants as event
-use Rattle.paxos_box.specs.declared.SequencePaxos.{SequencePaxos}
 use Rattle.paxos_box.specs.declared.LogOp.TheVariants as log
 use Rattle.leader_state.specs.State.{fresh, with_depots, with_of}
 use Rattle.leader_state.specs.declared.Depot as place
@@ -33,14 +31,13 @@ use Rattle.outgoing.specs.Queue as queue
 use Rattle.outgoing.specs.Perform.{performed}
 use Rattle.hire_book.specs.Book.{book_of}
 use Rattle.sight.specs.Sight.{queue_entries}
-use Rattle.step.specs.Step.{World, world, Outcome, box_of, log_of, cached_of, best_of, buffer_of, queue_of, book_after, perform_of, taken_to, step_of}
-use Rattle.step_laws.proofs.Fits.{found}
+use Rattle.step.specs.Step.{World, world, Outcome, box_of, log_of, cached_of, best_of, buffer_of, queue_of, book_after, perform_of, step_of}
 use Rattle.step_laws.proofs.Outcome.{outcome_of}
 use Rattle.step_laws.proofs.Whole.{Stays}
 use Rattle.step_laws.proofs.Step.{fresh-stays}
 use Rattle.step_laws.proofs.Unbroken.{whole-unbroken}
-use Rattle.unread_laws.specs.InUse.{used_node, InUse, in_use, Alike}
-use Rattle.unread_laws.specs.PowerCut.{restarted_node, restarted_world, kept_node, kept_log, fresh_row, power_cut}
+use Rattle.unread_laws.specs.InUse.{in_use, Alike}
+use Rattle.unread_laws.specs.PowerCut.{restarted_node, restarted_world, kept_log, fresh_row, power_cut}
 use Rattle.unread_laws.proofs.Unread.{goes_on, same-use, Given, SameStep, answers, after, unread-run, shape-stays}
 
 -- a log on which nothing is put

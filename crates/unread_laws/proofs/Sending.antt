@@ -1,7 +1,7 @@
 -- What goes to one depot, and to each of several, reads and changes no place past the depots.
-use Prim.Native.Nat.{ℕ, zero, suc, ◌-◌, ◌<◌, ◌≤◌}
-use mathlib.Core.Path.{◌≡◌, refl, ap, subst, sym, ◌∙◌}
-use mathlib.Core.Bool.{Bool, true, false, cond}
+use Prim.Native.Nat.{ℕ, zero, suc, ◌-◌, ◌≤◌}
+use mathlib.Core.Path.{◌≡◌, refl, ap}
+use mathlib.Core.Bool.{Bool, false}
 use mathlib.Core.List.{List}
 use native.Mathlib.Omega.{arith}
 use lib.Dec.{leb, ltb}
@@ -19,7 +19,7 @@ use Rattle.paxos_box.specs.declared.SequencePaxos.{SequencePaxos}
 use Rattle.paxos_box.specs.Box.{unfit, at_top, next_place}
 use Rattle.sends.specs.declared.Each.{Each}
 use Rattle.sends.specs.declared.Each.TheVariants as each
-use Rattle.sends.specs.Sends.{the_depot, on_depot, log_length, sync_fits, next_session_of, next_seq_num_of, set_latest_of, send_prepare, new_session, push_acc_sync, sync_start_of, send_acc_sync, by_promise, acc_sync_to, stands, latest_accdec, join_to, push_accept_decide, new_accept_decide, accept_decide_by, accept_decide_to, push_decide, decide_by, decide_to, send_prepare_req, send_one, turn_of, for_marked}
+use Rattle.sends.specs.Sends.{the_depot, on_depot, log_length, sync_fits, next_session_of, next_seq_num_of, set_latest_of, send_prepare, new_session, push_acc_sync, sync_start_of, send_acc_sync, by_promise, acc_sync_to, stands, latest_accdec, join_to, push_accept_decide, new_accept_decide, accept_decide_by, accept_decide_to, push_decide, decide_by, decide_to, send_prepare_req, send_one, for_marked}
 use Rattle.refusals.proofs.Taken.{Depot}
 use Rattle.unread_laws.specs.InUse.{past_box}
 use Rattle.unread_laws.proofs.Boxes.{Pair, lift, choose, push, depot-alike, on-depot}

@@ -1,5 +1,5 @@
 -- Two depots that differ only in places past the depots, or in cells that nothing uses, get the same answer and the same changes, and those places keep what they held.
-use Prim.Native.Nat.{ℕ, zero, suc, ◌+◌, ◌-◌, ◌<◌, ◌≤◌}
+use Prim.Native.Nat.{ℕ, zero, suc, ◌+◌, ◌-◌, ◌≤◌}
 use mathlib.Core.Path.{◌≡◌, refl, sym, ap, subst, ◌∙◌}
 use mathlib.Core.Bool.{Bool, true, false, cond}
 use mathlib.Core.List.{List, [], ◌∷◌}
@@ -8,7 +8,6 @@ use lib.Dec.{eqb}
 use lib.ListN.{length, take, drop}
 use lib.Seq.{take-take}
 use borrow.Author.Tests.{eqb-true, eqb-false}
-use Rattle.base.specs.Limits.{max_log, max_store}
 use Rattle.quorum.specs.declared.Configuration.{Configuration}
 use Rattle.leader_state.specs.declared.Depot as place
 use Rattle.messages.specs.declared.Event.{Event}
@@ -38,8 +37,8 @@ use Rattle.refusals.proofs.Sound as refusals
 use Rattle.views.specs.View.{View, view_of, perform_view, box_view}
 use Rattle.views.proofs.View.{queue-back}
 use Rattle.views.proofs.Box.{box-viewed}
-use Rattle.views.proofs.Step.{Seen, taken-view}
-use Rattle.unread_laws.specs.InUse.{past_in, past_box, used_node, InUse, in_use, Alike}
+use Rattle.views.proofs.Step.{taken-view}
+use Rattle.unread_laws.specs.InUse.{past_box, used_node, InUse, in_use, Alike}
 use Rattle.unread_laws.proofs.Mix.{mix-take}
 use Rattle.unread_laws.proofs.Boxes.{Pair}
 use Rattle.unread_laws.proofs.Deciding.{decides-alike}

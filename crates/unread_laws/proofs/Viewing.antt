@@ -1,12 +1,12 @@
 -- Depots that differ in nothing that is in use are seen as the same lists, but for the places past the depots, and make deciding boxes that differ only there.
-use Prim.Native.Nat.{ℕ, zero, suc, ◌+◌, ◌-◌, ◌<◌, ◌≤◌}
+use Prim.Native.Nat.{ℕ, zero, suc, ◌+◌, ◌-◌, ◌<◌}
 use mathlib.Core.Path.{◌≡◌, refl, sym, ap, ◌∙◌}
 use mathlib.Core.Bool.{Bool, true, false, cond}
-use mathlib.Core.List.{List, [], ◌∷◌, ◌++◌, map}
+use mathlib.Core.List.{List}
 use native.Mathlib.Omega.{arith}
 use lib.Dec.{ltb}
 use lib.ListN.{length, take, drop, length-map}
-use lib.Seq.{length-take-le, get_or-take}
+use lib.Seq.{length-take-le}
 use borrow.Author.Tests.{ltb-true}
 use Rattle.base.specs.Limits.{max_depots, max_log}
 use Rattle.base.specs.Lists.{tabulate}
@@ -33,13 +33,13 @@ use Rattle.record.specs.declared.Buffered.{Buffered}
 use Rattle.record.specs.Record.{load_of}
 use Rattle.sight.specs.Sight.{brought, brought_change}
 use Rattle.broken.specs.Broken.{cached_sync, best_sync}
-use Rattle.outgoing.specs.Queue.{Msg, msg_of, lent, queue_of, entries_in}
+use Rattle.outgoing.specs.Queue.{Msg, msg_of, queue_of, entries_in}
 use Rattle.refusals.proofs.Taken.{SyncFit, Lengths, Whole}
 use Rattle.step.specs.Step.{World}
 use Rattle.step_laws.proofs.After.{Shape}
 use Rattle.views.specs.View.{View, view_of, numbers_of, held_entries, Counted, accdec_there, accepted_there, held_first, sight_view, box_view, perform_view, new_log, new_buffered, cached_list, new_cached, new_best, new_queue}
-use Rattle.unread_laws.specs.InUse.{mix, past_in, past_box, used_node, InUse, in_use, Alike}
-use Rattle.unread_laws.proofs.Mix.{mix-get, mix-same, mix-take}
+use Rattle.unread_laws.specs.InUse.{past_in, past_box, used_node, InUse, in_use, Alike}
+use Rattle.unread_laws.proofs.Mix.{mix-get, mix-same}
 
 -- a view with other places past the depots
 abbrev pub past_node : ℕ → List place.Depot → Record → Record

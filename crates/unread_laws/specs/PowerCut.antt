@@ -1,5 +1,5 @@
 -- What a restart leaves, and a box that kept only promise, accepted round, log and decided index through a power cut.
-use Rattle.std.specs.Prelude.{ℕ, ◌-◌, List, [], ◌++◌, take, replicate}
+use Rattle.std.specs.Prelude.{ℕ, ◌-◌, List, ◌++◌, take, replicate}
 use Rattle.base.specs.Limits.{max_log, max_store, max_messages}
 use Rattle.base.specs.Lists.{on_first}
 use Rattle.ballot.specs.Ballot.{default}
@@ -8,7 +8,6 @@ use Rattle.quorum.specs.declared.Configuration.{Configuration}
 use Rattle.leader_state.specs.State.{fresh, no_best}
 use Rattle.messages.specs.Messages.{no_head}
 use Rattle.messages.specs.declared.Row.{Row}
-use Rattle.paxos_box.specs.declared.State.{State}
 use Rattle.paxos_box.specs.declared.Role.TheVariants.{Follower}
 use Rattle.paxos_box.specs.declared.Phase.TheVariants as phase
 use Rattle.paxos_box.specs.declared.AcceptedMeta.TheVariants as meta
