@@ -1,5 +1,5 @@
 -- What the runs break, from what is seen of the depots.
-use Prim.Native.Nat.{ℕ, ◌≤◌}
+use Prim.Native.Nat.{◌≤◌}
 use mathlib.Core.Path.{◌≡◌, refl, ap}
 use mathlib.Core.List.{List, [], ◌∷◌, map}
 use native.Mathlib.Omega.{arith}

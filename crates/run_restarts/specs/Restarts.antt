@@ -1,5 +1,5 @@
 -- What a restart that forgets does to the claim on runs: agreement fails, or a decided index falls.
-use Rattle.std.specs.Prelude.{ℕ, ◌≤◌, ◌≡◌, List, [], ◌∷◌, map}
+use Rattle.std.specs.Prelude.{◌≤◌, ◌≡◌, List, [], ◌∷◌, map}
 use Rattle.runs.specs.Runs.{Setup, State, Move, after}
 use Rattle.runs.specs.Claim.{decided}
 use Rattle.run_cases.specs.Seen.{two, three, start, all, having, Agree}
