@@ -22,7 +22,7 @@ const OUT_8: u64 = 6152;
 
 fn give(rt: &impl Print, c: &mut Cluster, pid: u64, entry: u64) -> io::Result<()> {
     let entries = [entry; 1];
-    act(rt, c, pid, " is given", Event::Propose, &entries)
+    act(rt, c, pid, b" is given", Event::Propose, &entries)
 }
 
 fn lead(rt: &impl Print, c: &mut Cluster, round: u32, pid: u64) -> io::Result<()> {
@@ -32,22 +32,22 @@ fn lead(rt: &impl Print, c: &mut Cluster, round: u32, pid: u64) -> io::Result<()
         priority: 0,
         pid,
     };
-    act(rt, c, pid, " is told to lead", Event::Leader(n), &none)
+    act(rt, c, pid, b" is told to lead", Event::Leader(n), &none)
 }
 
-fn tell(rt: &impl Print, c: &mut Cluster, pid: u64, what: &str, e: Event) -> io::Result<()> {
+fn tell(rt: &impl Print, c: &mut Cluster, pid: u64, what: &[u8], e: Event) -> io::Result<()> {
     let none = [0u64; 0];
     act(rt, c, pid, what, e, &none)
 }
 
 fn elect(rt: &impl Print, c: &mut Cluster) -> io::Result<()> {
-    say(rt, "-- Depot 1 is elected with ballot 1.0.1.\n")?;
+    say(rt, b"-- Depot 1 is elected with ballot 1.0.1.\n")?;
     lead(rt, c, 1, 1)?;
     settle(rt, c, 64)
 }
 
 fn forward(rt: &impl Print, c: &mut Cluster) -> io::Result<()> {
-    say(rt, "\n-- Depot 2 is given an entry, and forwards it.\n")?;
+    say(rt, b"\n-- Depot 2 is given an entry, and forwards it.\n")?;
     give(rt, c, 2, OUT_7)?;
     settle(rt, c, 64)
 }
@@ -55,7 +55,7 @@ fn forward(rt: &impl Print, c: &mut Cluster) -> io::Result<()> {
 fn lose(rt: &impl Print, c: &mut Cluster) -> io::Result<()> {
     say(
         rt,
-        "\n-- What goes to depot 3 is lost; it sees the gap at the next message, and asks to be prepared again.\n",
+        b"\n-- What goes to depot 3 is lost; it sees the gap at the next message, and asks to be prepared again.\n",
     )?;
     give(rt, c, 1, BACK_7)?;
     drain(rt, c, 1, 3)?;
@@ -65,17 +65,17 @@ fn lose(rt: &impl Print, c: &mut Cluster) -> io::Result<()> {
 fn restart(rt: &impl Print, c: &mut Cluster) -> io::Result<()> {
     say(
         rt,
-        "\n-- Depot 2 restarts, and reconnects with its leader.\n",
+        b"\n-- Depot 2 restarts, and reconnects with its leader.\n",
     )?;
-    tell(rt, c, 2, " restarts", Event::Restart)?;
-    tell(rt, c, 2, " reconnects with depot 1", Event::Reconnect(1))?;
+    tell(rt, c, 2, b" restarts", Event::Restart)?;
+    tell(rt, c, 2, b" reconnects with depot 1", Event::Reconnect(1))?;
     settle(rt, c, 64)
 }
 
 fn part(rt: &impl Print, c: &mut Cluster) -> io::Result<()> {
     say(
         rt,
-        "\n-- Depot 3 is elected with ballot 2.0.3; what it sends to depot 1 is lost.\n",
+        b"\n-- Depot 3 is elected with ballot 2.0.3; what it sends to depot 1 is lost.\n",
     )?;
     lead(rt, c, 2, 3)?;
     drain(rt, c, 3, 1)?;
@@ -87,13 +87,13 @@ fn part(rt: &impl Print, c: &mut Cluster) -> io::Result<()> {
 fn two_leaders(rt: &impl Print, c: &mut Cluster) -> io::Result<()> {
     say(
         rt,
-        "\n-- Depot 1 still leads for itself: the entry it takes is not accepted by the others.\n",
+        b"\n-- Depot 1 still leads for itself: the entry it takes is not accepted by the others.\n",
     )?;
     give(rt, c, 1, OUT_8)?;
     settle(rt, c, 64)?;
     say(
         rt,
-        "\n-- Depot 3 takes an entry, which depots 2 and 3 decide.\n",
+        b"\n-- Depot 3 takes an entry, which depots 2 and 3 decide.\n",
     )?;
     give(rt, c, 3, OUT_9)?;
     settle(rt, c, 64)
@@ -102,16 +102,16 @@ fn two_leaders(rt: &impl Print, c: &mut Cluster) -> io::Result<()> {
 fn heal(rt: &impl Print, c: &mut Cluster) -> io::Result<()> {
     say(
         rt,
-        "\n-- Depot 3 resends its Prepare, which reaches depot 1: the entry that nobody decided gives way.\n",
+        b"\n-- Depot 3 resends its Prepare, which reaches depot 1: the entry that nobody decided gives way.\n",
     )?;
-    tell(rt, c, 3, " resends", Event::Resend)?;
+    tell(rt, c, 3, b" resends", Event::Resend)?;
     settle(rt, c, 64)?;
     say(
         rt,
-        "\n-- Depot 1 restarts, reconnects, and forwards an entry.\n",
+        b"\n-- Depot 1 restarts, reconnects, and forwards an entry.\n",
     )?;
-    tell(rt, c, 1, " restarts", Event::Restart)?;
-    tell(rt, c, 1, " reconnects with depot 3", Event::Reconnect(3))?;
+    tell(rt, c, 1, b" restarts", Event::Restart)?;
+    tell(rt, c, 1, b" reconnects with depot 3", Event::Reconnect(3))?;
     settle(rt, c, 64)?;
     give(rt, c, 1, BACK_9)?;
     settle(rt, c, 64)
@@ -126,6 +126,6 @@ fn main(rt: HostRuntime) -> io::Result<()> {
     part(&rt, &mut c)?;
     two_leaders(&rt, &mut c)?;
     heal(&rt, &mut c)?;
-    say(&rt, "\n")?;
+    say(&rt, b"\n")?;
     rounds::say_table(&rt, c)
 }

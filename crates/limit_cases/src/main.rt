@@ -100,21 +100,21 @@ fn say_sizes(rt: &impl Print, s: Site) -> io::Result<()> {
     let node = s.node;
     let kept = node.internal_storage;
     let buffered = node.buffered_proposals;
-    say_number(rt, "; log ", kept.accepted_idx as u64)?;
-    say_number(rt, ", buffered ", buffered.len as u64)?;
-    say_number(rt, ", queue ", node.outgoing as u64)?;
-    say_number(rt, " with ", carried(s, node.outgoing) as u64)
+    say_number(rt, b"; log ", kept.accepted_idx as u64)?;
+    say_number(rt, b", buffered ", buffered.len as u64)?;
+    say_number(rt, b", queue ", node.outgoing as u64)?;
+    say_number(rt, b" with ", carried(s, node.outgoing) as u64)
 }
 
 fn say_found(rt: &impl Print, before: Site, after: Site) -> io::Result<()> {
     if as_found::same_site(before, after) {
-        return say(rt, ", everything as found");
+        return say(rt, b", everything as found");
     }
-    say(rt, ", CHANGED")
+    say(rt, b", CHANGED")
 }
 
 // A step and what it answered. Refused, all that was lent is compared with what was found.
-fn case(rt: &impl Print, name: &str, s: Site, e: Event, entries: &[u64]) -> io::Result<Site> {
+fn case(rt: &impl Print, name: &[u8], s: Site, e: Event, entries: &[u64]) -> io::Result<Site> {
     say(rt, name)?;
     let x = s.step(e, entries);
     let answer = x.answer;
@@ -125,7 +125,7 @@ fn case(rt: &impl Print, name: &str, s: Site, e: Event, entries: &[u64]) -> io::
     } else {
         say_found(rt, s, site)?;
     }
-    say(rt, "\n")?;
+    say(rt, b"\n")?;
     Ok(site)
 }
 
@@ -133,8 +133,8 @@ fn log_limit(rt: &impl Print) -> io::Result<()> {
     let s = leader_of(cluster::majority(3, 1), 511, 0);
     let one = [5127u64; 1];
     let two = [5127u64; 2];
-    case(rt, "log 511 and one entry", s, Event::Propose, &one)?;
-    case(rt, "log 511 and two entries", s, Event::Propose, &two)?;
+    case(rt, b"log 511 and one entry", s, Event::Propose, &one)?;
+    case(rt, b"log 511 and two entries", s, Event::Propose, &two)?;
     Ok(())
 }
 
@@ -144,12 +144,12 @@ fn buffer_limit(rt: &impl Print) -> io::Result<()> {
     let one = [7431u64; 1];
     let full = case(
         rt,
-        "buffer 0 and sixteen entries",
+        b"buffer 0 and sixteen entries",
         s,
         Event::Propose,
         &sixteen,
     )?;
-    case(rt, "buffer 16 and one entry", full, Event::Propose, &one)?;
+    case(rt, b"buffer 16 and one entry", full, Event::Propose, &one)?;
     Ok(())
 }
 
@@ -170,20 +170,32 @@ fn queue_limits(rt: &impl Print) -> io::Result<()> {
     let none = [0u64; 0];
     let s = Site::fresh(cluster::majority(3, 1));
     let s1 = again(s, Event::Reconnect(2), 63);
-    let s2 = case(rt, "queue 63 and a message", s1, Event::Reconnect(2), &none)?;
-    case(rt, "queue 64 and a message", s2, Event::Reconnect(2), &none)?;
+    let s2 = case(
+        rt,
+        b"queue 63 and a message",
+        s1,
+        Event::Reconnect(2),
+        &none,
+    )?;
+    case(
+        rt,
+        b"queue 64 and a message",
+        s2,
+        Event::Reconnect(2),
+        &none,
+    )?;
     let promise = promise_from(2, first_ballot());
     let t = again(leader_of(cluster::majority(3, 1), 512, 0), promise, 7);
     let t1 = case(
         rt,
-        "queue of 3,584 entries and an AcceptSync of 512",
+        b"queue of 3,584 entries and an AcceptSync of 512",
         t,
         promise,
         &none,
     )?;
     case(
         rt,
-        "queue of 4,096 entries and an AcceptSync of 512",
+        b"queue of 4,096 entries and an AcceptSync of 512",
         t1,
         promise,
         &none,
@@ -217,7 +229,7 @@ fn six_syncs(rt: &impl Print) -> io::Result<()> {
     }
     case(
         rt,
-        "queue 0 and the Promise that draws six AcceptSyncs",
+        b"queue 0 and the Promise that draws six AcceptSyncs",
         site,
         promise_from(7, n),
         &none,
@@ -231,26 +243,32 @@ fn refusals(rt: &impl Print) -> io::Result<()> {
     let s = Site::fresh(cluster::majority(3, 1));
     case(
         rt,
-        "1: one depot",
+        b"1: one depot",
         Site::fresh(cluster::majority(1, 1)),
         Event::Drain,
         &none,
     )?;
     case(
         rt,
-        "2: decided index above the log's length",
+        b"2: decided index above the log's length",
         decided_past(s),
         Event::Drain,
         &none,
     )?;
     case(
         rt,
-        "3: a reconnect that names depot 0",
+        b"3: a reconnect that names depot 0",
         s,
         Event::Reconnect(0),
         &none,
     )?;
-    case(rt, "4: an entry above its limit", s, Event::Propose, &above)?;
+    case(
+        rt,
+        b"4: an entry above its limit",
+        s,
+        Event::Propose,
+        &above,
+    )?;
     Ok(())
 }
 
@@ -261,17 +279,23 @@ fn later_refusals(rt: &impl Print) -> io::Result<()> {
     let full = leader_of(cluster::majority(3, 1), 512, 0);
     let top = leader_of(cluster::majority(3, 1), 0, base::LARGEST);
     let s = Site::fresh(cluster::majority(3, 1));
-    case(rt, "5: a full log and an entry", full, Event::Propose, &one)?;
     case(
         rt,
-        "6: a full queue and a message",
+        b"5: a full log and an entry",
+        full,
+        Event::Propose,
+        &one,
+    )?;
+    case(
+        rt,
+        b"6: a full queue and a message",
         again(s, Event::Reconnect(2), 64),
         Event::Reconnect(3),
         &none,
     )?;
     case(
         rt,
-        "7: a session at its top and a Promise",
+        b"7: a session at its top and a Promise",
         top,
         promise_from(2, first_ballot()),
         &none,
@@ -279,7 +303,7 @@ fn later_refusals(rt: &impl Print) -> io::Result<()> {
     let waiting = s.step(Event::Propose, &sixteen);
     case(
         rt,
-        "8: a full buffer and an entry",
+        b"8: a full buffer and an entry",
         waiting.site,
         Event::Propose,
         &one,

@@ -14,9 +14,9 @@ use telling::{say, say_answer, say_ballot, say_entries, say_message, say_number,
 // A message of a depot's row, with its entries.
 pub fn say_head(rt: &impl Print, from: Site, head: Head) -> io::Result<()> {
     let c = from.config;
-    say_number(rt, "  ", c.pid)?;
-    say_number(rt, " to ", head.to)?;
-    say(rt, ": ")?;
+    say_number(rt, b"  ", c.pid)?;
+    say_number(rt, b" to ", head.to)?;
+    say(rt, b": ")?;
     let msg = head.msg;
     say_message(rt, msg)?;
     let store = from.store;
@@ -33,12 +33,12 @@ fn first_failed(a: io::Result<()>, b: io::Result<()>) -> io::Result<()> {
     }
 }
 
-fn say_act(rt: &impl Print, pid: u64, what: &str, entries: &[u64], no: u32) -> io::Result<()> {
-    say_number(rt, "depot ", pid)?;
+fn say_act(rt: &impl Print, pid: u64, what: &[u8], entries: &[u64], no: u32) -> io::Result<()> {
+    say_number(rt, b"depot ", pid)?;
     say(rt, what)?;
     say_entries(rt, entries)?;
     say_answer(rt, no)?;
-    say(rt, "\n")
+    say(rt, b"\n")
 }
 
 // One step of a depot, told in words. It is taken whether or not the words could be written.
@@ -46,7 +46,7 @@ pub fn act(
     rt: &impl Print,
     c: &mut Cluster,
     pid: u64,
-    what: &str,
+    what: &[u8],
     e: Event,
     entries: &[u64],
 ) -> io::Result<()>
@@ -60,13 +60,13 @@ pub fn act(
 
 fn say_lost(rt: &impl Print, sender: Site, head: Head) -> io::Result<()> {
     say_head(rt, sender, head)?;
-    say(rt, ": LOST\n")
+    say(rt, b": LOST\n")
 }
 
 fn say_brought(rt: &impl Print, sender: Site, head: Head, no: u32) -> io::Result<()> {
     say_head(rt, sender, head)?;
     say_answer(rt, no)?;
-    say(rt, "\n")
+    say(rt, b"\n")
 }
 
 // The message at a place of a depot's row arrives, or is lost where it goes to the depot `lost`.
@@ -115,13 +115,13 @@ fn queued(s: Site) -> usize
 // The messages that wait in a depot's queue.
 pub fn say_queue(rt: &impl Print, s: Site) -> io::Result<()> {
     let c = s.config;
-    say_number(rt, "waiting at depot ", c.pid)?;
-    say(rt, ":\n")?;
+    say_number(rt, b"waiting at depot ", c.pid)?;
+    say(rt, b":\n")?;
     let count = queued(s);
     let mut at: usize = 0;
     while at < count {
         say_head(rt, s, s.head(at))?;
-        say(rt, "\n")?;
+        say(rt, b"\n")?;
         at += 1;
     }
     Ok(())
@@ -151,7 +151,7 @@ fn next_sender(c: Cluster) -> u64
     0
 }
 
-// Queues are drained and messages arrive until all queues are empty, or so many drains were made.
+// Queues are drained and messages arrive until all queues are empty, or so many drains were made; as in `drain`, what cannot be written stops nothing.
 pub fn settle(rt: &impl Print, c: &mut Cluster, drains: u64) -> io::Result<()>
     ensures { c.new ≡ settled drains c.old }
 {
@@ -192,15 +192,15 @@ fn say_site(rt: &impl Print, s: Site) -> io::Result<()> {
     let c = s.config;
     let node = s.node;
     let kept = node.internal_storage;
-    say_number(rt, "depot ", c.pid)?;
-    say(rt, ": ")?;
+    say_number(rt, b"depot ", c.pid)?;
+    say(rt, b": ")?;
     say_state(rt, node.state)?;
-    say_ballot(rt, ", promise ", kept.promise)?;
-    say_number(rt, ", log ", kept.accepted_idx as u64)?;
-    say_number(rt, ", decided ", kept.decided_idx as u64)?;
+    say_ballot(rt, b", promise ", kept.promise)?;
+    say_number(rt, b", log ", kept.accepted_idx as u64)?;
+    say_number(rt, b", decided ", kept.decided_idx as u64)?;
     let book = s.book;
-    say_number(rt, ", days ", total_of(book))?;
-    say(rt, "\n")
+    say_number(rt, b", days ", total_of(book))?;
+    say(rt, b"\n")
 }
 
 fn same_books(a: Site, b: Site) -> bool {
@@ -218,7 +218,7 @@ pub fn say_table(rt: &impl Print, c: Cluster) -> io::Result<()> {
     say_site(rt, second)?;
     say_site(rt, third)?;
     if same_books(first, second) && same_books(first, third) {
-        return say(rt, "the books are equal\n");
+        return say(rt, b"the books are equal\n");
     }
-    say(rt, "the books differ\n")
+    say(rt, b"the books differ\n")
 }

@@ -29,7 +29,7 @@ fn lead(rt: &impl Print, c: &mut Cluster) -> io::Result<()> {
         rt,
         c,
         1,
-        " is told to lead with 1.0.1",
+        b" is told to lead with 1.0.1",
         Event::Leader(n),
         &none,
     )?;
@@ -40,17 +40,20 @@ fn lead(rt: &impl Print, c: &mut Cluster) -> io::Result<()> {
 
 fn propose(rt: &impl Print, c: &mut Cluster, entry: u64) -> io::Result<()> {
     let entries = [entry; 1];
-    act(rt, c, 1, " is given", Event::Propose, &entries)
+    act(rt, c, 1, b" is given", Event::Propose, &entries)
 }
 
 // The AcceptSync of session 1 to depot 3 is lost, and the AcceptDecide of the first entry waits.
 fn lose_session_1(rt: &impl Print, c: &mut Cluster) -> io::Result<()> {
-    say(rt, "\n-- The AcceptSync of session 1 to depot 3 is lost.\n")?;
+    say(
+        rt,
+        b"\n-- The AcceptSync of session 1 to depot 3 is lost.\n",
+    )?;
     drain(rt, c, 1, 3)?;
     drain(rt, c, 2, 0)?;
     say(
         rt,
-        "\n-- The first entry: an AcceptDecide of session 1 to depot 3 waits in the queue, and its position is remembered.\n",
+        b"\n-- The first entry: an AcceptDecide of session 1 to depot 3 waits in the queue, and its position is remembered.\n",
     )?;
     propose(rt, c, OUT_10)?;
     rounds::say_queue(rt, c.site(1))
@@ -60,9 +63,9 @@ fn resend_promise(rt: &impl Print, c: &mut Cluster) -> io::Result<()> {
     let none = [0u64; 0];
     say(
         rt,
-        "\n-- Depot 3 resends its Promise, which draws an AcceptSync of session 2.\n",
+        b"\n-- Depot 3 resends its Promise, which draws an AcceptSync of session 2.\n",
     )?;
-    act(rt, c, 3, " resends", Event::Resend, &none)?;
+    act(rt, c, 3, b" resends", Event::Resend, &none)?;
     drain(rt, c, 3, 0)?;
     rounds::say_queue(rt, c.site(1))
 }
@@ -96,15 +99,15 @@ fn rest(rt: &impl Print, c: &mut Cluster) -> io::Result<()> {
 fn old_rule(rt: &impl Print, c: Cluster) -> io::Result<()> {
     say(
         rt,
-        "\n== The old rule, on a copy in which the position is put back: the second entry joins the message of number 1.2.\n",
+        b"\n== The old rule, on a copy in which the position is put back: the second entry joins the message of number 1.2.\n",
     )?;
     say(
         rt,
-        "-- Depot 3 drops that message, as it waits for an AcceptSync. Nobody sends it 7431 again, and it takes the next entry in its place:\n",
+        b"-- Depot 3 drops that message, as it waits for an AcceptSync. Nobody sends it 7431 again, and it takes the next entry in its place:\n",
     )?;
     say(
         rt,
-        "-- it misses the back of day 14, and charges the 19 days up to day 33 on which the pump stood in the yard.\n",
+        b"-- it misses the back of day 14, and charges the 19 days up to day 33 on which the pump stood in the yard.\n",
     )?;
     let mut put_back = remembered(c);
     second_entry(rt, &mut put_back)?;
@@ -114,7 +117,7 @@ fn old_rule(rt: &impl Print, c: Cluster) -> io::Result<()> {
 fn new_rule(rt: &impl Print, c: &mut Cluster) -> io::Result<()> {
     say(
         rt,
-        "\n== The new rule: the AcceptSync forgot the position, and the second entry goes to depot 3 in an AcceptDecide of session 2.\n",
+        b"\n== The new rule: the AcceptSync forgot the position, and the second entry goes to depot 3 in an AcceptDecide of session 2.\n",
     )?;
     second_entry(rt, c)?;
     rest(rt, c)
