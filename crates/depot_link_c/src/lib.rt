@@ -14,7 +14,7 @@ pub extern "C" fn depots_fresh(record: &mut [u64]) -> u32
     depot_link::depots_fresh(record)
 }
 
-// One step. The answer is document 01's number; how many buffered entries were dropped, and how many messages a drain handed out, go to
+// One step. The answer is 0 or the refusal's number (docs/RULES.md, R2); how many buffered entries were dropped, and how many messages a drain handed out, go to
 // `dropped` and `handed_out`. Any slices may be given: where it is refused, all but these two is as found.
 #[unsafe(no_mangle)]
 pub extern "C" fn depots_step(
