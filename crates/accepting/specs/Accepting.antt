@@ -1,11 +1,11 @@
 -- What a follower does with AcceptSync, AcceptDecide and Decide (follower.rs; docs/RULES.md, R8.5 to R8.9). Each definition takes the box last. Most are named like
 -- the function that meets them (handle_decide: handle_decide); each contract in src/ cites its own.
-use Rattle.std.specs.Prelude.{ℕ, ◌+◌, min, Bool, false, cond, ltb, eqb}
+use Rattle.std.specs.Prelude.{ℕ, ◌+◌, min, Bool, false, cond, ltb, eqb, Option, None, Some}
 use Rattle.base.specs.Limits.{max_log, largest}
 use Rattle.ballot.specs.Ballot.{compare_of, same}
 use Rattle.ballot.specs.declared.Ballot.{Ballot}
-use Rattle.ballot.specs.declared.Order.{Order}
-use Rattle.ballot.specs.declared.Order.TheVariants.{Less, Equal, Greater}
+use Rattle.std.specs.declared.cmp.Ordering.{Ordering}
+use Rattle.std.specs.declared.cmp.Ordering.TheVariants.{Less, Equal, Greater}
 use Rattle.sequence.specs.Sequence.{status_of}
 use Rattle.sequence.specs.declared.SequenceNumber.{SequenceNumber}
 use Rattle.sequence.specs.declared.MessageStatus.{MessageStatus}
@@ -14,10 +14,7 @@ use Rattle.leader_state.specs.declared.LogSync.{LogSync}
 use Rattle.messages.specs.declared.AcceptSync.{AcceptSync}
 use Rattle.messages.specs.declared.PaxosMsg.TheVariants as msg
 use Rattle.paxos_box.specs.declared.SequencePaxos.{SequencePaxos}
-use Rattle.paxos_box.specs.declared.CachedMessage.TheVariants as cached
 use Rattle.paxos_box.specs.declared.AcceptedAt.{AcceptedAt}
-use Rattle.paxos_box.specs.declared.AcceptedMeta.{AcceptedMeta}
-use Rattle.paxos_box.specs.declared.AcceptedMeta.TheVariants as meta
 use Rattle.paxos_box.specs.declared.LogOp.TheVariants.{PutGiven}
 use Rattle.paxos_box.specs.declared.Sent.TheVariants.{Raise}
 use Rattle.paxos_box.specs.declared.Source.TheVariants as source
@@ -34,7 +31,7 @@ use Rattle.reconnect.specs.Reconnect.{reconnected_of}
 abbrev pub not_accepted : Ballot → SequencePaxos → SequencePaxos
 not_accepted n s = send_new n.pid (msg.NotAccepted (record { n = s.internal_storage.promise })) source.Nothing 0 s
 
-abbrev pub by_ballot : Order → Ballot → SequencePaxos → SequencePaxos → SequencePaxos
+abbrev pub by_ballot : Ordering → Ballot → SequencePaxos → SequencePaxos → SequencePaxos
 by_ballot Equal n taken s = taken
 by_ballot Greater n taken s = not_accepted n s
 by_ballot Less n taken s = reconnected_of n.pid s
@@ -46,7 +43,7 @@ if_valid_ballot n taken s = by_ballot (compare_of s.internal_storage.promise n) 
 unfoldable pub send_accepted : Ballot → ℕ → ℕ → SequencePaxos → SequencePaxos
 send_accepted n idx to s =
     send_new to (msg.Accepted (record { n = n; accepted_idx = idx })) source.Nothing 0
-    (set_meta (meta.At (record { n = n; at = next_place s })) s)
+    (set_meta (Some (record { n = n; at = next_place s })) s)
 
 -- AcceptSync needs (Follower, Prepare) (R8.6). The sync is put on, unless it is unfit; buffered proposals are forwarded, then the Accepted is sent and remembered
 abbrev pub given_sync : AcceptSync → ℕ → LogSync
@@ -54,7 +51,7 @@ given_sync m count = record { sync_idx = m.sync_idx; len = count }
 
 unfoldable pub acceptsync_put : AcceptSync → ℕ → SequencePaxos → SequencePaxos
 acceptsync_put m count s =
-    forward_buffered (sync_log m.n m.decided_idx (sync_end (given_sync m count)) (PutGiven (given_sync m count)) (set_cached cached.Nothing s))
+    forward_buffered (sync_log m.n m.decided_idx (sync_end (given_sync m count)) (PutGiven (given_sync m count)) (set_cached None s))
 
 unfoldable pub following : SequenceNumber → SequencePaxos → SequencePaxos
 following q s = set_seq q (with_state (record { role = Follower; phase = phase.Accept }) s)
@@ -89,23 +86,23 @@ abbrev pub if_expected : SequenceNumber → ℕ → SequencePaxos → SequencePa
 if_expected q pid taken s = cond (counter_at_top q s) (at_top s) (by_status (status_of s.current_seq_num q) pid taken s)
 
 -- the remembered Accepted, where it is of this ballot and an Accepted stands at its position
-abbrev pub at_if_same : Ballot → Bool → AcceptedAt → AcceptedMeta
-at_if_same n on x = cond on (cond (same x.n n) (meta.At x) meta.Nothing) meta.Nothing
+abbrev pub at_if_same : Ballot → Bool → AcceptedAt → Option AcceptedAt
+at_if_same n on x = cond on (cond (same x.n n) (Some x) None) None
 
-abbrev pub of_ballot : Ballot → Bool → AcceptedMeta → AcceptedMeta
-of_ballot n on (meta.At x) = at_if_same n on x
-of_ballot n on meta.Nothing = meta.Nothing
+abbrev pub of_ballot : Ballot → Bool → Option AcceptedAt → Option AcceptedAt
+of_ballot n on (Some x) = at_if_same n on x
+of_ballot n on None = None
 
-unfoldable pub latest_accepted : Ballot → SequencePaxos → AcceptedMeta
-latest_accepted n s = of_ballot n s.plan.sight.accepted s.latest_accepted_meta.meta
+unfoldable pub latest_accepted : Ballot → SequencePaxos → Option AcceptedAt
+latest_accepted n s = of_ballot n s.plan.sight.accepted s.latest_accepted_meta
 
 -- it gets the new index, else a new Accepted goes to the ballot's pid
 abbrev pub raise_accepted : Ballot → ℕ → ℕ → SequencePaxos → SequencePaxos
 raise_accepted n at idx s = push_of (record { to = n.pid; what = Raise (record { at = at; accepted_idx = idx }); source = source.Nothing; count = 0 }) s
 
-abbrev pub reply_by : AcceptedMeta → Ballot → ℕ → SequencePaxos → SequencePaxos
-reply_by (meta.At x) n idx s = raise_accepted n x.at idx s
-reply_by meta.Nothing n idx s = send_accepted n idx n.pid s
+abbrev pub reply_by : Option AcceptedAt → Ballot → ℕ → SequencePaxos → SequencePaxos
+reply_by (Some x) n idx s = raise_accepted n x.at idx s
+reply_by None n idx s = send_accepted n idx n.pid s
 
 unfoldable pub reply_accepted : Ballot → ℕ → SequencePaxos → SequencePaxos
 reply_accepted n idx s = reply_by (latest_accepted n s) n idx s

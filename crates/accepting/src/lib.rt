@@ -5,14 +5,12 @@ ghost use Rattle.std.specs.Prelude.{◌≡◌, ◌+◌, ◌≤◌, min};
 ghost use Rattle.paxos_box.specs.Room.{Room};
 ghost use Rattle.accepting.specs.Accepting.{not_accepted, send_accepted, acceptsync_put, following, acceptsync_taken, acceptsync_in, handle_acceptsync, counter_at_top, at_if_same, of_ballot, latest_accepted, raise_accepted, reply_accepted, update_decided, acceptdecide_taken, acceptdecide_fit, acceptdecide_expected, acceptdecide_in, handle_acceptdecide, decide_taken, decide_expected, decide_in_accept, handle_decide};
 
-use ballot::{Ballot, Order};
+use ballot::Ballot;
+use std::cmp::Ordering;
 use base::{LARGEST, MAX_LOG};
 use leader_state::LogSync;
 use messages::{AcceptSync, Accepted, NotAccepted, PaxosMsg};
-use paxos_box::{
-    AcceptedAt, AcceptedMeta, CachedMessage, LogOp, Phase, Raise, Role, Send, Sent, SequencePaxos,
-    Source, Standing,
-};
+use paxos_box::{AcceptedAt, LogOp, Phase, Raise, Role, Send, Sent, SequencePaxos, Source, Standing};
 use sequence::{MessageStatus, SequenceNumber};
 
 fn smaller(a: usize, b: usize) -> usize
@@ -43,7 +41,7 @@ fn push_accepted(s: SequencePaxos, n: Ballot, accepted_idx: usize, to: u64) -> S
     ensures room { Room result }
 {
     let at = s.next_place();
-    let s1 = s.set_latest_accepted(AcceptedMeta::At(AcceptedAt { n, at }));
+    let s1 = s.set_latest_accepted(Some(AcceptedAt { n, at }));
     s1.push_send(Send {
         to,
         what: Sent::New(PaxosMsg::Accepted(Accepted { n, accepted_idx })),
@@ -64,7 +62,7 @@ fn acceptsync_put(s: SequencePaxos, m: AcceptSync, count: usize) -> SequencePaxo
         sync_idx: m.sync_idx,
         len: count,
     };
-    let s1 = s.set_cached(CachedMessage::Nothing);
+    let s1 = s.set_cached(None);
     let s2 = log_plan::sync_log(
         s1,
         m.n,
@@ -138,9 +136,9 @@ pub fn handle_acceptsync(s: SequencePaxos, m: AcceptSync, count: usize, from: u6
     let st = s.state;
     let at = st.standing();
     match own.compare(n) {
-        Order::Equal => acceptsync_in(s, at, m, count, from),
-        Order::Greater => not_accepted(s, n),
-        Order::Less => reconnect::reconnected(s, n.pid),
+        Ordering::Equal => acceptsync_in(s, at, m, count, from),
+        Ordering::Greater => not_accepted(s, n),
+        Ordering::Less => reconnect::reconnected(s, n.pid),
     }
 }
 
@@ -156,38 +154,36 @@ fn counter_at_top(s: SequencePaxos, q: SequenceNumber) -> bool
     false
 }
 
-fn of_ballot(n: Ballot, on: bool, m: AcceptedMeta) -> AcceptedMeta
+fn of_ballot(n: Ballot, on: bool, m: Option<AcceptedAt>) -> Option<AcceptedAt>
     ensures { result ≡ of_ballot n on m }
 {
     match m {
-        AcceptedMeta::At(x) => at_if_same(n, on, x),
-        AcceptedMeta::Nothing => AcceptedMeta::Nothing,
+        Some(x) => at_if_same(n, on, x),
+        None => None,
     }
 }
 
-fn at_if_same(n: Ballot, on: bool, x: AcceptedAt) -> AcceptedMeta
+fn at_if_same(n: Ballot, on: bool, x: AcceptedAt) -> Option<AcceptedAt>
     ensures { result ≡ at_if_same n on x }
 {
     if on {
         let b = x.n;
         if b.same(n) {
-            return AcceptedMeta::At(x);
+            return Some(x);
         }
-        return AcceptedMeta::Nothing;
+        return None;
     }
-    AcceptedMeta::Nothing
+    None
 }
 
 // The remembered Accepted, where it is of this ballot and an Accepted stands at its position.
 #[tactic(auto, unfolding(crate::specs::Accepting::latest_accepted))]
-fn get_latest_accepted_message(s: SequencePaxos, n: Ballot) -> AcceptedMeta
+fn get_latest_accepted_message(s: SequencePaxos, n: Ballot) -> Option<AcceptedAt>
     ensures { result ≡ latest_accepted n s }
 {
     let p = s.plan;
     let sight = p.sight;
-    let latest = s.latest_accepted_meta;
-    let meta = latest.meta;
-    of_ballot(n, sight.accepted, meta)
+    of_ballot(n, sight.accepted, s.latest_accepted_meta)
 }
 
 fn raise_accepted(s: SequencePaxos, n: Ballot, at: usize, accepted_idx: usize) -> SequencePaxos
@@ -211,8 +207,8 @@ fn reply_accepted(s: SequencePaxos, n: Ballot, accepted_idx: usize) -> SequenceP
 {
     let latest = get_latest_accepted_message(s, n);
     match latest {
-        AcceptedMeta::At(x) => raise_accepted(s, n, x.at, accepted_idx),
-        AcceptedMeta::Nothing => push_accepted(s, n, accepted_idx, n.pid),
+        Some(x) => raise_accepted(s, n, x.at, accepted_idx),
+        None => push_accepted(s, n, accepted_idx, n.pid),
     }
 }
 
@@ -328,9 +324,9 @@ pub fn handle_acceptdecide(
     let st = s.state;
     let at = st.standing();
     match own.compare(n) {
-        Order::Equal => acceptdecide_in(s, at, n, q, decided, count),
-        Order::Greater => not_accepted(s, n),
-        Order::Less => reconnect::reconnected(s, n.pid),
+        Ordering::Equal => acceptdecide_in(s, at, n, q, decided, count),
+        Ordering::Greater => not_accepted(s, n),
+        Ordering::Less => reconnect::reconnected(s, n.pid),
     }
 }
 
@@ -391,8 +387,8 @@ pub fn handle_decide(
     let t = s.internal_storage;
     let own = t.promise;
     match own.compare(n) {
-        Order::Equal => decide_in_accept(s, n, q, decided),
-        Order::Greater => not_accepted(s, n),
-        Order::Less => reconnect::reconnected(s, n.pid),
+        Ordering::Equal => decide_in_accept(s, n, q, decided),
+        Ordering::Greater => not_accepted(s, n),
+        Ordering::Less => reconnect::reconnected(s, n.pid),
     }
 }

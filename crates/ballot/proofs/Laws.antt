@@ -8,20 +8,20 @@ use lib.Dec.{ltb, eqb}
 use borrow.Author.Tests.{lt-ltb, le-ltb, ltb-true, ltb-false, eqb-true}
 use Rattle.ballot.specs.Ballot.{by_num, compare_of, is_above, is_same, above, same, default, is_default}
 use Rattle.ballot.specs.declared.Ballot.{Ballot}
-use Rattle.ballot.specs.declared.Order.{Order}
-use Rattle.ballot.specs.declared.Order.TheVariants.{Less, Equal, Greater}
+use Rattle.std.specs.declared.cmp.Ordering.{Ordering}
+use Rattle.std.specs.declared.cmp.Ordering.TheVariants.{Less, Equal, Greater}
 
 -- the order in words: a higher round, or the same and a higher priority, or both the same and a higher pid
 abbrev pub Above : Ballot → Ballot → Type 0
 Above a b = (b.n < a.n) ⊎ ((a.n ≡ b.n) × ((b.priority < a.priority) ⊎ ((a.priority ≡ b.priority) × (b.pid < a.pid))))
 
 -- one number is above, or they are equal and the rest decides
-num-above : (x y : ℕ) (s t : Bool) (next : Order) → ltb x y ≡ s → ltb y x ≡ t → is_above (cond s Less (cond t Greater next)) ≡ true → (y < x) ⊎ ((x ≡ y) × (is_above next ≡ true))
+num-above : (x y : ℕ) (s t : Bool) (next : Ordering) → ltb x y ≡ s → ltb y x ≡ t → is_above (cond s Less (cond t Greater next)) ≡ true → (y < x) ⊎ ((x ≡ y) × (is_above next ≡ true))
 num-above x y true t next p q e = absurd (let w : ◌≡◌ {A = ℕ} 0 1 = cc in omega arith)
 num-above x y false true next p q e = inl (ltb-true y x q)
 num-above x y false false next p q e = inr (omega (arith, ltb-false x y p, ltb-false y x q), e)
 
-num-same : (x y : ℕ) (s t : Bool) (next : Order) → ltb x y ≡ s → ltb y x ≡ t → is_same (cond s Less (cond t Greater next)) ≡ true → (x ≡ y) × (is_same next ≡ true)
+num-same : (x y : ℕ) (s t : Bool) (next : Ordering) → ltb x y ≡ s → ltb y x ≡ t → is_same (cond s Less (cond t Greater next)) ≡ true → (x ≡ y) × (is_same next ≡ true)
 num-same x y true t next p q e = absurd (let w : ◌≡◌ {A = ℕ} 0 1 = cc in omega arith)
 num-same x y false true next p q e = absurd (let w : ◌≡◌ {A = ℕ} 0 1 = cc in omega arith)
 num-same x y false false next p q e = (omega (arith, ltb-false x y p, ltb-false y x q), e)

@@ -4,19 +4,14 @@
 ghost use Rattle.std.specs.Prelude.{◌≡◌};
 ghost use Rattle.ballot.specs.Ballot.{compare_of, same, above, is_default, default};
 
+use std::cmp::Ordering;
+
 // (round, priority, pid), compared in that order; all zero is the default.
-#[derive(Clone, Copy)]
+#[derive(Clone, Copy, Debug, PartialEq, Eq, PartialOrd, Ord, Default)]
 pub struct Ballot {
     pub n: u32,
     pub priority: u32,
     pub pid: u64,
-}
-
-#[derive(Clone, Copy)]
-pub enum Order {
-    Less,
-    Equal,
-    Greater,
 }
 
 impl Ballot {
@@ -31,62 +26,30 @@ impl Ballot {
     }
 
     #[tactic(auto, unfolding(crate::specs::Ballot::compare_of))]
-    pub fn compare(self, other: Ballot) -> Order
+    pub fn compare(self, other: Ballot) -> Ordering
         ensures { result ≡ compare_of self other }
     {
-        if self.n < other.n {
-            return Order::Less;
-        }
-        if other.n < self.n {
-            return Order::Greater;
-        }
-        if self.priority < other.priority {
-            return Order::Less;
-        }
-        if other.priority < self.priority {
-            return Order::Greater;
-        }
-        if self.pid < other.pid {
-            return Order::Less;
-        }
-        if other.pid < self.pid {
-            return Order::Greater;
-        }
-        Order::Equal
+        self.cmp(&other)
     }
 
-    #[tactic(auto, unfolding(crate::specs::Ballot::same))]
+    #[tactic(auto, unfolding(crate::specs::Ballot::same, crate::specs::Ballot::compare_of))]
     pub fn same(self, other: Ballot) -> bool
         ensures { result ≡ same self other }
     {
-        match self.compare(other) {
-            Order::Greater => false,
-            Order::Less => false,
-            Order::Equal => true,
-        }
+        self == other
     }
 
-    #[tactic(auto, unfolding(crate::specs::Ballot::above))]
+    #[tactic(auto, unfolding(crate::specs::Ballot::above, crate::specs::Ballot::compare_of))]
     pub fn above(self, other: Ballot) -> bool
         ensures { result ≡ above self other }
     {
-        match self.compare(other) {
-            Order::Greater => true,
-            Order::Less => false,
-            Order::Equal => false,
-        }
+        self > other
     }
 
     #[tactic(auto, unfolding(crate::specs::Ballot::is_default))]
     pub fn is_default(self) -> bool
         ensures { result ≡ is_default self }
     {
-        if self.n != 0 {
-            return false;
-        }
-        if self.priority != 0 {
-            return false;
-        }
-        self.pid == 0
+        self == Ballot::default()
     }
 }

@@ -1,16 +1,13 @@
 -- Refusal 2 (document 01, "When a box says no"): the record is broken. Each clause of the table's row 2 is a definition of its own, in the row's order.
-use Rattle.std.specs.Prelude.{ℕ, Bool, false, not, ◌&&◌, ◌||◌, List, ltb, leb, eqb}
+use Rattle.std.specs.Prelude.{ℕ, Bool, false, not, ◌&&◌, ◌||◌, List, ltb, leb, eqb, Option, None, Some}
 use Rattle.base.specs.Limits.{max_log, max_messages, max_buffered}
 use Rattle.ballot.specs.Ballot.{is_default}
+use Rattle.paxos_box.specs.declared.AcceptedAt.{AcceptedAt}
+use Rattle.paxos_box.specs.declared.CachedPromise.{CachedPromise}
+use Rattle.leader_state.specs.declared.LogSync.{LogSync}
 use Rattle.quorum.specs.declared.Configuration.{Configuration}
-use Rattle.leader_state.specs.declared.HeldSync.{HeldSync}
-use Rattle.leader_state.specs.declared.HeldSync.TheVariants as held
 use Rattle.messages.specs.declared.Row.{Row}
 use Rattle.paxos_box.specs.Box.{is_leader}
-use Rattle.paxos_box.specs.declared.AcceptedMeta.{AcceptedMeta}
-use Rattle.paxos_box.specs.declared.AcceptedMeta.TheVariants as meta
-use Rattle.paxos_box.specs.declared.CachedMessage.{CachedMessage}
-use Rattle.paxos_box.specs.declared.CachedMessage.TheVariants as cached
 use Rattle.log_plan.specs.Log.{ends_past}
 use Rattle.record.specs.declared.Record.{Record}
 use Rattle.hire_book.specs.Book.{any_above, broken_of}
@@ -38,19 +35,19 @@ log_above r log = any_above (part_of 0 r.internal_storage.accepted_idx log)
 abbrev pub buffer_above : Record → Bool
 buffer_above r = any_above (part_of 0 r.buffered_proposals.len r.buffered_proposals.entries)
 
-abbrev pub held_above : HeldSync → List ℕ → Bool
-held_above held.Nothing buffer = false
-held_above (held.Held x) buffer = any_above (part_of 0 x.len buffer)
+abbrev pub held_above : Option LogSync → List ℕ → Bool
+held_above None buffer = false
+held_above (Some x) buffer = any_above (part_of 0 x.len buffer)
 
-abbrev pub best_sync : Record → HeldSync
+abbrev pub best_sync : Record → Option LogSync
 best_sync r = r.leader_state.max_promise.sync
 
-abbrev pub sync_in : CachedMessage → HeldSync
-sync_in cached.Nothing = held.Nothing
-sync_in (cached.Held m) = m.sync
+abbrev pub sync_in : Option CachedPromise → Option LogSync
+sync_in None = None
+sync_in (Some m) = m.sync
 
-abbrev pub cached_sync : Record → HeldSync
-cached_sync r = sync_in r.cached_promise_message.message
+abbrev pub cached_sync : Record → Option LogSync
+cached_sync r = sync_in r.cached_promise_message
 
 abbrev pub queued_above : Record → Row → List ℕ → Bool
 queued_above r row store = any_head (head_above store) row r.outgoing
@@ -70,14 +67,14 @@ over_limit r = ltb max_messages r.outgoing || ltb max_buffered r.buffered_propos
 
 -- a remembered position at or past the queue's end: of the AcceptDecide of each depot, whatever the role, and of the Accepted
 
-abbrev pub meta_past : ℕ → AcceptedMeta → Bool
-meta_past len meta.Nothing = false
-meta_past len (meta.At a) = leb len a.at
+abbrev pub meta_past : ℕ → Option AcceptedAt → Bool
+meta_past len None = false
+meta_past len (Some a) = leb len a.at
 
 unfoldable pub position_past : Configuration → Record → Bool
 position_past c r =
     any_place (place_past r.outgoing) c.depots r.leader_state
-    || meta_past r.outgoing r.latest_accepted_meta.meta
+    || meta_past r.outgoing r.latest_accepted_meta
 
 -- a head whose entries lie outside the store or overlap another's; a head with no entries is not tested and overlaps nothing
 
@@ -91,9 +88,9 @@ promise_misplaced c r = any_place misplaced c.depots r.leader_state
 
 -- a held sync ending past 512: the best promise's and the cached promise's
 
-abbrev pub held_past : HeldSync → Bool
-held_past held.Nothing = false
-held_past (held.Held x) = ends_past x
+abbrev pub held_past : Option LogSync → Bool
+held_past None = false
+held_past (Some x) = ends_past x
 
 unfoldable pub sync_past : Record → Bool
 sync_past r = held_past (best_sync r) || held_past (cached_sync r)
@@ -106,31 +103,31 @@ leader_off c r = is_leader r.state.role && not (eqb r.leader_state.n_leader.pid 
 -- a kept nonzero ballot whose pid is no depot: promise, accepted round, the leader's, the accepted rounds of the best and of each kept promise,
 -- both of the cached promise, the remembered Accepted's, and those in queued heads
 
-abbrev pub cached_foreign : Configuration → CachedMessage → Bool
-cached_foreign c cached.Nothing = false
-cached_foreign c (cached.Held m) = either_foreign c m.n m.n_accepted
+abbrev pub cached_foreign : Configuration → Option CachedPromise → Bool
+cached_foreign c None = false
+cached_foreign c (Some m) = either_foreign c m.n m.n_accepted
 
-abbrev pub meta_foreign : Configuration → AcceptedMeta → Bool
-meta_foreign c meta.Nothing = false
-meta_foreign c (meta.At a) = foreign c a.n
+abbrev pub meta_foreign : Configuration → Option AcceptedAt → Bool
+meta_foreign c None = false
+meta_foreign c (Some a) = foreign c a.n
 
 unfoldable pub kept_foreign : Configuration → Record → Row → Bool
 kept_foreign c r row =
     either_foreign c r.internal_storage.promise r.internal_storage.accepted_round
     || (either_foreign c r.leader_state.n_leader r.leader_state.max_promise.meta.n_accepted
     || (any_place (place_foreign c) c.depots r.leader_state
-    || (cached_foreign c r.cached_promise_message.message
-    || (meta_foreign c r.latest_accepted_meta.meta
+    || (cached_foreign c r.cached_promise_message
+    || (meta_foreign c r.latest_accepted_meta
     || any_head (head_foreign c) row r.outgoing))))
 
 -- a cached promise of the default ballot
 
-abbrev pub message_default : CachedMessage → Bool
-message_default cached.Nothing = false
-message_default (cached.Held m) = is_default m.n
+abbrev pub message_default : Option CachedPromise → Bool
+message_default None = false
+message_default (Some m) = is_default m.n
 
 abbrev pub cached_default : Record → Bool
-cached_default r = message_default r.cached_promise_message.message
+cached_default r = message_default r.cached_promise_message
 
 -- all of these that record and row alone say
 

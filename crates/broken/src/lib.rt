@@ -9,9 +9,9 @@ ghost use Rattle.broken.specs.Broken.{buffer_above, held_above, best_sync, sync_
 
 use base::{MAX_BUFFERED, MAX_LOG, MAX_MESSAGES};
 use heads::HeadTest;
-use leader_state::HeldSync;
+use leader_state::LogSync;
 use messages::Row;
-use paxos_box::{AcceptedMeta, CachedMessage};
+use paxos_box::{AcceptedAt, CachedPromise};
 use places::PlaceTest;
 use quorum::Configuration;
 use record::Record;
@@ -24,33 +24,31 @@ fn buffer_above(r: Record) -> bool
     hire_book::any_above(sight::part(&entries, 0, b.len))
 }
 
-fn held_above(sync: HeldSync, buffer: &[u64]) -> bool
+fn held_above(sync: Option<LogSync>, buffer: &[u64]) -> bool
     ensures { result ≡ held_above sync buffer.now }
 {
     match sync {
-        HeldSync::Nothing => false,
-        HeldSync::Held(x) => hire_book::any_above(sight::part(buffer, 0, x.len)),
+        None => false,
+        Some(x) => hire_book::any_above(sight::part(buffer, 0, x.len)),
     }
 }
 
-fn sync_in(m: CachedMessage) -> HeldSync
+fn sync_in(m: Option<CachedPromise>) -> Option<LogSync>
     ensures { result ≡ sync_in m }
 {
     match m {
-        CachedMessage::Nothing => HeldSync::Nothing,
-        CachedMessage::Held(p) => p.sync,
+        None => None,
+        Some(p) => p.sync,
     }
 }
 
-fn cached_sync(r: Record) -> HeldSync
+fn cached_sync(r: Record) -> Option<LogSync>
     ensures { result ≡ cached_sync r }
 {
-    let c = r.cached_promise_message;
-    let m = c.message;
-    sync_in(m)
+    sync_in(r.cached_promise_message)
 }
 
-fn best_sync(r: Record) -> HeldSync
+fn best_sync(r: Record) -> Option<LogSync>
     ensures { result ≡ best_sync r }
 {
     let l = r.leader_state;
@@ -93,12 +91,12 @@ fn over_limit(r: Record) -> bool
     MAX_BUFFERED < b.len
 }
 
-fn meta_past(len: usize, m: AcceptedMeta) -> bool
+fn meta_past(len: usize, m: Option<AcceptedAt>) -> bool
     ensures { result ≡ meta_past len m }
 {
     match m {
-        AcceptedMeta::Nothing => false,
-        AcceptedMeta::At(a) => len <= a.at,
+        None => false,
+        Some(a) => len <= a.at,
     }
 }
 
@@ -112,9 +110,7 @@ fn position_past(c: Configuration, r: Record) -> bool
     if places::any_place(l, c.depots, PlaceTest::Past(r.outgoing)) {
         return true;
     }
-    let a = r.latest_accepted_meta;
-    let m = a.meta;
-    meta_past(r.outgoing, m)
+    meta_past(r.outgoing, r.latest_accepted_meta)
 }
 
 // A head whose entries lie outside the store or overlap another's.
@@ -129,12 +125,12 @@ fn head_off(r: Record, row: Row) -> bool
     heads::any_overlap(row, r.outgoing)
 }
 
-fn held_past(sync: HeldSync) -> bool
+fn held_past(sync: Option<LogSync>) -> bool
     ensures { result ≡ held_past sync }
 {
     match sync {
-        HeldSync::Nothing => false,
-        HeldSync::Held(x) => log_plan::ends_past(x),
+        None => false,
+        Some(x) => log_plan::ends_past(x),
     }
 }
 
@@ -166,21 +162,21 @@ fn leader_off(c: Configuration, r: Record) -> bool
     false
 }
 
-fn cached_foreign(c: Configuration, m: CachedMessage) -> bool
+fn cached_foreign(c: Configuration, m: Option<CachedPromise>) -> bool
     ensures { result ≡ cached_foreign c m }
 {
     match m {
-        CachedMessage::Nothing => false,
-        CachedMessage::Held(p) => unfit::either_foreign(c, p.n, p.n_accepted),
+        None => false,
+        Some(p) => unfit::either_foreign(c, p.n, p.n_accepted),
     }
 }
 
-fn meta_foreign(c: Configuration, m: AcceptedMeta) -> bool
+fn meta_foreign(c: Configuration, m: Option<AcceptedAt>) -> bool
     ensures { result ≡ meta_foreign c m }
 {
     match m {
-        AcceptedMeta::Nothing => false,
-        AcceptedMeta::At(a) => unfit::foreign(c, a.n),
+        None => false,
+        Some(a) => unfit::foreign(c, a.n),
     }
 }
 
@@ -194,10 +190,8 @@ fn kept_foreign(c: Configuration, r: Record, row: Row) -> bool
     let t = r.internal_storage;
     let l = r.leader_state;
     let best = l.max_promise;
-    let cached = r.cached_promise_message;
-    let m = cached.message;
-    let a = r.latest_accepted_meta;
-    let meta = a.meta;
+    let m = r.cached_promise_message;
+    let meta = r.latest_accepted_meta;
     if unfit::either_foreign(c, t.promise, t.accepted_round) {
         return true;
     }
@@ -216,12 +210,12 @@ fn kept_foreign(c: Configuration, r: Record, row: Row) -> bool
     heads::any_head(row, r.outgoing, HeadTest::Foreign(c))
 }
 
-fn message_default(m: CachedMessage) -> bool
+fn message_default(m: Option<CachedPromise>) -> bool
     ensures { result ≡ message_default m }
 {
     match m {
-        CachedMessage::Nothing => false,
-        CachedMessage::Held(p) => ballot::Ballot::is_default(p.n),
+        None => false,
+        Some(p) => ballot::Ballot::is_default(p.n),
     }
 }
 
@@ -233,8 +227,7 @@ fn state_broken(c: Configuration, r: Record, row: Row) -> bool
     ensures { result ≡ state_broken c r row }
 {
     let l = r.leader_state;
-    let cached = r.cached_promise_message;
-    let m = cached.message;
+    let m = r.cached_promise_message;
     if position_past(c, r) {
         return true;
     }

@@ -1,4 +1,5 @@
 -- What every step writes to the held sync's buffer: nothing, or the sync that a Promise brings and that the record then holds.
+use Rattle.std.specs.Prelude.{Option, None, Some}
 use Prim.Native.Nat.{ℕ}
 use mathlib.Core.Path.{◌≡◌, refl, ap, sym, subst}
 use mathlib.Core.Bool.{Bool, true, false, cond}
@@ -8,12 +9,10 @@ use lib.Dec.{eqb, ltb}
 use lib.ListN.{length}
 use Rattle.ballot.specs.Ballot.{same, compare_of}
 use Rattle.ballot.specs.declared.Ballot.{Ballot}
-use Rattle.ballot.specs.declared.Order.{Order}
-use Rattle.ballot.specs.declared.Order.TheVariants.{Less, Equal, Greater}
+use Rattle.std.specs.declared.cmp.Ordering.{Ordering}
+use Rattle.std.specs.declared.cmp.Ordering.TheVariants.{Less, Equal, Greater}
 use Rattle.quorum.specs.declared.Configuration.{Configuration}
 use Rattle.leader_state.specs.declared.LogSync.{LogSync}
-use Rattle.leader_state.specs.declared.HeldSync.{HeldSync}
-use Rattle.leader_state.specs.declared.HeldSync.TheVariants.{Nothing, Held}
 use Rattle.leader_state.specs.declared.PromiseMetaData.{PromiseMetaData}
 use Rattle.leader_state.specs.Promises.{beats_best, max_decided}
 use Rattle.leader_state.specs.Places.{promised_followers}
@@ -22,14 +21,9 @@ use Rattle.messages.specs.declared.Event.TheVariants as event
 use Rattle.messages.specs.declared.PaxosMsg.{PaxosMsg}
 use Rattle.messages.specs.declared.PaxosMsg.TheVariants as msg
 use Rattle.messages.specs.declared.AcceptSync.{AcceptSync}
-use Rattle.messages.specs.declared.PromiseSync.TheVariants as sync
 use Rattle.paxos_box.specs.declared.SequencePaxos.{SequencePaxos}
 use Rattle.paxos_box.specs.declared.LogOp.{LogOp}
 use Rattle.paxos_box.specs.declared.LogOp.TheVariants as log
-use Rattle.paxos_box.specs.declared.BestOp.{BestOp}
-use Rattle.paxos_box.specs.declared.BestOp.TheVariants as best
-use Rattle.paxos_box.specs.declared.CachedMessage.TheVariants as cached
-use Rattle.paxos_box.specs.declared.AcceptedMeta.TheVariants as meta
 use Rattle.paxos_box.specs.declared.Source.TheVariants.{Buffered}
 use Rattle.paxos_box.specs.declared.Role.TheVariants.{Leader}
 use Rattle.paxos_box.specs.declared.Phase.TheVariants as phase
@@ -56,9 +50,9 @@ use Rattle.step_laws.proofs.Fits.{found, as-found}
 use Rattle.step_laws.proofs.Outcome.{outcome_of}
 use Rattle.cell_laws.proofs.Quiet.{Quiet, push, quiet-closed}
 
-pub data Puts (e : Event) (entries : List ℕ) (held : HeldSync) (op : BestOp) : Type 0 where
-  nothing : op ≡ best.Keep → Puts e entries held op
-  brings : (x : LogSync) → Brought e entries x → held ≡ Held x → op ≡ best.Given x.len → Puts e entries held op
+pub data Puts (e : Event) (entries : List ℕ) (held : Option LogSync) (op : Option ℕ) : Type 0 where
+  nothing : op ≡ None → Puts e entries held op
+  brings : (x : LogSync) → Brought e entries x → held ≡ Some x → op ≡ Some x.len → Puts e entries held op
 
 abbrev Putting : Event → List ℕ → SequencePaxos → Type 0
 Putting e entries s = Puts e entries s.leader_state.max_promise.sync s.plan.writes.best
@@ -73,7 +67,7 @@ module _ (c : Configuration) (entries : List ℕ) (s : SequencePaxos) (f : Found
   unfolding acceptsync_put sync_log forward_buffered
   put-quiet m =
       let x = given_sync m (length entries) in
-      let u = sync_log m.n m.decided_idx (sync_end x) (log.PutGiven x) (set_cached cached.Nothing s) in
+      let u = sync_log m.n m.decided_idx (sync_end x) (log.PutGiven x) (set_cached None s) in
       let j : Quiet c 0 u = record { config = i.config; best = i.best } in
       either (Quiet c 0) (eqb u.buffered_proposals 0) u (cond (has_leader u) (push_forward Buffered u.buffered_proposals (set_buffered 0 u)) u)
       (λ a. j)
@@ -88,7 +82,7 @@ module _ (c : Configuration) (entries : List ℕ) (s : SequencePaxos) (f : Found
       let t = following m.seq_num (acceptsync_put m (length entries) s) in
       either (Quiet c 0) (sync_unfit x s.plan.sight.brought_change m.decided_idx s) (unfit s) (send_accepted m.n (sync_end x) from t)
       (λ a. i)
-      (λ a. push c _ (set_meta (meta.At (record { n = m.n; at = next_place t })) t) (put-quiet m))
+      (λ a. push c _ (set_meta (Some (record { n = m.n; at = next_place t })) t) (put-quiet m))
 
   pub acceptsync-quiet : (m : AcceptSync) (from : ℕ) → Quiet c 0 (handle_acceptsync m (length entries) from s)
   unfolding handle_acceptsync
@@ -101,13 +95,13 @@ module _ (c : Configuration) (entries : List ℕ) (s : SequencePaxos) (f : Found
       at LeaderAccept = i
       at Other = i
 
-      by : (p : Order) → Quiet c 0 (by_ballot p m.n (acceptsync_in (standing_of s.state.role s.state.phase) m (length entries) from s) s)
+      by : (p : Ordering) → Quiet c 0 (by_ballot p m.n (acceptsync_in (standing_of s.state.role s.state.phase) m (length entries) from s) s)
       by Equal = at (standing_of s.state.role s.state.phase)
       by Greater = o.tells-higher 0 m.n s (omega arith) i
       by Less = along-reconnected c event.Drain entries s (Quiet c) o f i m.n.pid
 
   -- a Promise that completes the read quorum puts its sync on the log at once
-  sync-quiet : (y : HeldSync) (b : Bool) (highest : ℕ) (t : SequencePaxos) → Quiet c 0 t → Quiet c 0 (sync_by y b highest t)
+  sync-quiet : (y : Option LogSync) (b : Bool) (highest : ℕ) (t : SequencePaxos) → Quiet c 0 t → Quiet c 0 (sync_by y b highest t)
   unfolding sync_held sync_log
   sync-quiet y b highest t j = by y
     where
@@ -117,12 +111,12 @@ module _ (c : Configuration) (entries : List ℕ) (s : SequencePaxos) (f : Found
           (λ a. j)
           (λ a. record { config = j.config; best = j.best })
 
-      by : (y : HeldSync) → Quiet c 0 (sync_by y b highest t)
-      by (Held x) =
+      by : (y : Option LogSync) → Quiet c 0 (sync_by y b highest t)
+      by (Some x) =
           either (Quiet c 0) (sync_unfit x (change_of b t) t.leader_state.max_promise.meta.decided_idx t) (unfit t) (leader_syncs highest (sync_end x) (put_op b x) t)
           (λ a. j)
           (λ a. puts (sync_end x) (put_op b x))
-      by Nothing = puts (log_length t) log.Keep
+      by None = puts (log_length t) log.Keep
 
   majority-quiet : (b : Bool) (t : SequencePaxos) → Quiet c 0 t → Quiet c 0 (handle_majority_promises b t)
   unfolding handle_majority_promises sync_with_best append_buffered
@@ -134,12 +128,12 @@ module _ (c : Configuration) (entries : List ℕ) (s : SequencePaxos) (f : Found
 
   module _ (e : Event) (m : PromiseMetaData) where
     -- else its sync's entries are kept, where it is the best so far
-    held-puts : (b : Bool) (x : HeldSync) → Arrives e entries x → Putting e entries (keep_sync b x (with_leader (record { n_leader = s.leader_state.n_leader; depots = (keep_promise m x true s).leader_state.depots; max_promise = cond b (record { meta = m; sync = x }) s.leader_state.max_promise }) s))
-    held-puts true (Held x) a = brings x a refl refl
-    held-puts true Nothing a = nothing refl
+    held-puts : (b : Bool) (x : Option LogSync) → Arrives e entries x → Putting e entries (keep_sync b x (with_leader (record { n_leader = s.leader_state.n_leader; depots = (keep_promise m x true s).leader_state.depots; max_promise = cond b (record { meta = m; sync = x }) s.leader_state.max_promise }) s))
+    held-puts true (Some x) a = brings x a refl refl
+    held-puts true None a = nothing refl
     held-puts false x a = nothing i.best
 
-    prepare-puts : (x : HeldSync) → Arrives e entries x → Putting e entries (handle_promise_prepare m x s)
+    prepare-puts : (x : Option LogSync) → Arrives e entries x → Putting e entries (handle_promise_prepare m x s)
     unfolding handle_promise_prepare
     prepare-puts x a =
         let b = beats_best m s.leader_state in
@@ -148,7 +142,7 @@ module _ (c : Configuration) (entries : List ℕ) (s : SequencePaxos) (f : Found
         (λ r. nothing (majority-quiet b t i).best)
         (λ r. held-puts b x a)
 
-    pub promise-puts : (n : Ballot) (x : HeldSync) → Depot c m.pid → Arrives e entries x → Putting e entries (handle_promise n m x s)
+    pub promise-puts : (n : Ballot) (x : Option LogSync) → Depot c m.pid → Arrives e entries x → Putting e entries (handle_promise n m x s)
     unfolding handle_promise handle_promise_accept
     promise-puts n x d a =
         either (Putting e entries) (same n s.leader_state.n_leader) (promise_in (standing_of s.state.role s.state.phase) m x s) s
@@ -160,7 +154,7 @@ module _ (c : Configuration) (entries : List ℕ) (s : SequencePaxos) (f : Found
         by LeaderAccept =
             either (Putting e entries) (brings_past x) (unfit s) (handle_promise_accept m s)
             (λ p. nothing i.best)
-            (λ p. nothing (along-sync-to c event.Drain entries s (Quiet c) o 0 m.pid (keep_promise m Nothing false s) (omega arith) d i).best)
+            (λ p. nothing (along-sync-to c event.Drain entries s (Quiet c) o 0 m.pid (keep_promise m None false s) (omega arith) d i).best)
         by FollowerPrepare = nothing i.best
         by FollowerAccept = nothing i.best
         by Other = nothing i.best
@@ -170,7 +164,7 @@ module _ (c : Configuration) (entries : List ℕ) (w : World) where
   unfolding box_of
   starts e t = record { config = refl; best = refl }
 
-  quiet-event : (e : Event) → brought e ≡ sync.Nothing → Queues e → Taken c w.node w.row w.lists e entries → Putting e entries (outcome_of c e entries w)
+  quiet-event : (e : Event) → brought e ≡ None → Queues e → Taken c w.node w.row w.lists e entries → Putting e entries (outcome_of c e entries w)
   quiet-event e n q t =
       let s = found c e entries w in
       nothing (along-event c entries s (Quiet c) (as-found c e entries w t) (starts e t) e (quiet-closed c e entries s n) q t.event).best

@@ -1,4 +1,5 @@
 -- Of every step, taken or refused: cells that nothing uses keep what they held, in the log, the two sync buffers and the buffered proposals.
+use Rattle.std.specs.Prelude.{Option, None, Some}
 use Prim.Native.Nat.{ℕ, ◌+◌, ◌≤◌}
 use mathlib.Core.Path.{◌≡◌, refl, sym, ap, subst, ◌∙◌}
 use mathlib.Core.Logic.{◌⊎◌, inl, inr}
@@ -9,16 +10,8 @@ use lib.Seq.{take_all, take-length}
 use Rattle.base.specs.Lists.{over}
 use Rattle.quorum.specs.declared.Configuration.{Configuration}
 use Rattle.leader_state.specs.declared.LogSync.{LogSync}
-use Rattle.leader_state.specs.declared.HeldSync.{HeldSync}
-use Rattle.leader_state.specs.declared.HeldSync.TheVariants as held
 use Rattle.messages.specs.declared.Event.{Event}
-use Rattle.messages.specs.declared.PromiseSync.TheVariants as sync
 use Rattle.paxos_box.specs.declared.SequencePaxos.{SequencePaxos}
-use Rattle.paxos_box.specs.declared.BestOp.{BestOp}
-use Rattle.paxos_box.specs.declared.CachedOp.{CachedOp}
-use Rattle.paxos_box.specs.declared.CachedOp.TheVariants as write
-use Rattle.paxos_box.specs.declared.BufferOp.{BufferOp}
-use Rattle.paxos_box.specs.declared.BufferOp.TheVariants as buffer
 use Rattle.sends.specs.Sends.{log_length}
 use Rattle.follower.specs.Follower.{count_of}
 use Rattle.sight.specs.Sight.{brought}
@@ -35,19 +28,19 @@ use Rattle.cell_laws.proofs.Cells.{further, log-past, over-past, put-taken}
 use Rattle.cell_laws.proofs.Best.{Puts, nothing, brings, puts}
 
 -- the sync of the best promise
-abbrev pub held_sync : World → HeldSync
+abbrev pub held_sync : World → Option LogSync
 held_sync w = w.node.leader_state.max_promise.sync
 
 -- the held sync's buffer after a step: as found; or the entries given are laid over it, those of the sync that the event brings and the record now holds.
 -- (A Promise may bring a sync of the same start and length as the one held, so an unchanged record does not say that the buffer is unchanged.)
 pub data BestCells (e : Event) (entries : List ℕ) (w v : World) : Type 0 where
   best-as-found : v.lists.best ≡ w.lists.best → BestCells e entries w v
-  best-brought : (x : LogSync) → brought e ≡ sync.From x.sync_idx → x.len ≡ length entries → held_sync v ≡ held.Held x → v.lists.best ≡ over entries w.lists.best → BestCells e entries w v
+  best-brought : (x : LogSync) → brought e ≡ Some x.sync_idx → x.len ≡ length entries → held_sync v ≡ Some x → v.lists.best ≡ over entries w.lists.best → BestCells e entries w v
 
 -- the cached promise's buffer: as found; or the part of the log that the promise now cached tells is laid over it
 pub data CachedCells (w v : World) : Type 0 where
   cached-as-found : v.lists.cached ≡ w.lists.cached → CachedCells w v
-  cached-told : (x : LogSync) → cached_sync v.node ≡ held.Held x → v.lists.cached ≡ over (take x.len (drop x.sync_idx v.lists.log)) w.lists.cached → CachedCells w v
+  cached-told : (x : LogSync) → cached_sync v.node ≡ Some x → v.lists.cached ≡ over (take x.len (drop x.sync_idx v.lists.log)) w.lists.cached → CachedCells w v
 
 -- the cells of the buffered proposals: those before the old count and those past the new one are as found
 pub record BufferCells (w v : World) : Type 0 where
@@ -76,10 +69,10 @@ module _ (c : Configuration) (e : Event) (entries : List ℕ) (w : World) (t : T
   best-cells = by (puts c entries w e t)
     where
       by : Puts e entries (outcome_of c e entries w).leader_state.max_promise.sync (outcome_of c e entries w).plan.writes.best → BestCells e entries w (perform_of e entries (outcome_of c e entries w) w)
-      by (nothing q) = best-as-found (ap (λ (op : BestOp). best_after op entries w.lists.best) q)
+      by (nothing q) = best-as-found (ap (λ (op : Option ℕ). best_after op entries w.lists.best) q)
       by (brings x b h q) =
           best-brought x b.start b.count h
-          (ap (λ (op : BestOp). best_after op entries w.lists.best) q ∙ ap (λ (l : List ℕ). over l w.lists.best) (take_all x.len entries (omega (arith, b.count))))
+          (ap (λ (op : Option ℕ). best_after op entries w.lists.best) q ∙ ap (λ (l : List ℕ). over l w.lists.best) (take_all x.len entries (omega (arith, b.count))))
 
   cached-cells : CachedCells w (perform_of e entries (outcome_of c e entries w) w)
   unfolding perform_of cached_of
@@ -88,13 +81,13 @@ module _ (c : Configuration) (e : Event) (entries : List ℕ) (w : World) (t : T
       v : World
       v = perform_of e entries (outcome_of c e entries w) w
 
-      at : (op : CachedOp) → (outcome_of c e entries w).plan.writes.cached ≡ op → v.lists.cached ≡ cached_after op (log_of entries (outcome_of c e entries w) w) w.lists.cached
-      at op q = ap (λ (x : CachedOp). cached_after x (log_of entries (outcome_of c e entries w) w) w.lists.cached) q
+      at : (op : Option LogSync) → (outcome_of c e entries w).plan.writes.cached ≡ op → v.lists.cached ≡ cached_after op (log_of entries (outcome_of c e entries w) w) w.lists.cached
+      at op q = ap (λ (x : Option LogSync). cached_after x (log_of entries (outcome_of c e entries w) w) w.lists.cached) q
 
-      by : Cache 7 (log_length (outcome_of c e entries w)) (found c e entries w).cached_promise_message.message (outcome_of c e entries w).cached_promise_message.message (outcome_of c e entries w).plan.writes.cached → CachedCells w v
-      by (none h q) = cached-as-found (at write.Keep q)
-      by (kept h q) = cached-as-found (at write.Keep q)
-      by (told x z h q f) = cached-told x h (at (write.FromLog x) q)
+      by : Cache 7 (log_length (outcome_of c e entries w)) (found c e entries w).cached_promise_message (outcome_of c e entries w).cached_promise_message (outcome_of c e entries w).plan.writes.cached → CachedCells w v
+      by (none h q) = cached-as-found (at None q)
+      by (kept h q) = cached-as-found (at None q)
+      by (told x z h q f) = cached-told x h (at (Some x) q)
 
   buffer-cells : BufferCells w (perform_of e entries (outcome_of c e entries w) w)
   unfolding perform_of buffer_of box_of
@@ -109,14 +102,14 @@ module _ (c : Configuration) (e : Event) (entries : List ℕ) (w : World) (t : T
       cells : List ℕ
       cells = w.node.buffered_proposals.entries
 
-      first : (op : BufferOp) → len ≤ length cells → take len (buffer_after op len entries cells) ≡ take len cells
-      first buffer.Keep l = refl
-      first (buffer.Add n) l = put-before len len (take n entries) cells (omega arith) l
+      first : (op : Option ℕ) → len ≤ length cells → take len (buffer_after op len entries cells) ≡ take len cells
+      first None l = refl
+      first (Some n) l = put-before len len (take n entries) cells (omega arith) l
 
-      past : (op : BufferOp) → (buffer_count op ≡ 0) ⊎ (len + buffer_count op ≤ s.buffered_proposals) → drop s.buffered_proposals (buffer_after op len entries cells) ≡ drop s.buffered_proposals cells
-      past buffer.Keep p = refl
-      past (buffer.Add n) (inl z) = rw z (ap (drop s.buffered_proposals) (put-nothing len cells))
-      past (buffer.Add n) (inr l) = put-taken s.buffered_proposals len n entries cells l
+      past : (op : Option ℕ) → (buffer_count op ≡ 0) ⊎ (len + buffer_count op ≤ s.buffered_proposals) → drop s.buffered_proposals (buffer_after op len entries cells) ≡ drop s.buffered_proposals cells
+      past None p = refl
+      past (Some n) (inl z) = rw z (ap (drop s.buffered_proposals) (put-nothing len cells))
+      past (Some n) (inr l) = put-taken s.buffered_proposals len n entries cells l
 
   taken-cells : Cells e entries w (perform_of e entries (outcome_of c e entries w) w)
   unfolding perform_of
@@ -149,7 +142,7 @@ module _ (c : Configuration) (e : Event) (entries : List ℕ) (w : World) where
       by v (cached-told x h q) = rw (ap count_of h, q) (over-past x.len (drop x.sync_idx v.lists.log) w.lists.cached)
 
   -- an event that brings no sync leaves the held sync's buffer alone
-  pub best-unless-brought : brought e ≡ sync.Nothing → (step_of c e entries w).after.lists.best ≡ w.lists.best
+  pub best-unless-brought : brought e ≡ None → (step_of c e entries w).after.lists.best ≡ w.lists.best
   best-unless-brought n = by (step_of c e entries w).after (cells c e entries w).best
     where
       by : (v : World) → BestCells e entries w v → v.lists.best ≡ w.lists.best
@@ -157,17 +150,17 @@ module _ (c : Configuration) (e : Event) (entries : List ℕ) (w : World) where
       by v (best-brought x b k h q) = absurd (let z : ◌≡◌ {A = ℕ} 0 1 = cc in omega arith)
 
   -- and so does a step that leaves none held, or none cached
-  pub best_none : held_sync (step_of c e entries w).after ≡ held.Nothing → (step_of c e entries w).after.lists.best ≡ w.lists.best
+  pub best_none : held_sync (step_of c e entries w).after ≡ None → (step_of c e entries w).after.lists.best ≡ w.lists.best
   best_none n = by (step_of c e entries w).after n (cells c e entries w).best
     where
-      by : (v : World) → held_sync v ≡ held.Nothing → BestCells e entries w v → v.lists.best ≡ w.lists.best
+      by : (v : World) → held_sync v ≡ None → BestCells e entries w v → v.lists.best ≡ w.lists.best
       by v r (best-as-found q) = q
       by v r (best-brought x b k h q) = absurd (let z : ◌≡◌ {A = ℕ} 0 1 = cc in omega arith)
 
-  pub cached-none : cached_sync (step_of c e entries w).after.node ≡ held.Nothing → (step_of c e entries w).after.lists.cached ≡ w.lists.cached
+  pub cached-none : cached_sync (step_of c e entries w).after.node ≡ None → (step_of c e entries w).after.lists.cached ≡ w.lists.cached
   cached-none n = by (step_of c e entries w).after n (cells c e entries w).cached
     where
-      by : (v : World) → cached_sync v.node ≡ held.Nothing → CachedCells w v → v.lists.cached ≡ w.lists.cached
+      by : (v : World) → cached_sync v.node ≡ None → CachedCells w v → v.lists.cached ≡ w.lists.cached
       by v r (cached-as-found q) = q
       by v r (cached-told x h q) = absurd (let z : ◌≡◌ {A = ℕ} 0 1 = cc in omega arith)
 

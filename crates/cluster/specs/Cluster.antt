@@ -1,8 +1,7 @@
 -- A depot with all that is lent to its steps, three of them side by side, and what a step or a message's arrival makes of them.
-use Rattle.std.specs.Prelude.{ℕ, cond, List, eqb, ltb, take, drop, get_or, set, replicate}
+use Rattle.std.specs.Prelude.{ℕ, cond, List, eqb, ltb, take, drop, get_or, set, replicate, None}
 use Rattle.base.specs.Limits.{max_log, max_messages, max_store}
 use Rattle.quorum.specs.declared.Configuration.{Configuration}
-use Rattle.quorum.specs.declared.FlexibleConfig.TheVariants as flexible
 use Rattle.quorum.specs.Quorum.{with_of}
 use Rattle.messages.specs.declared.Event.{Event}
 use Rattle.messages.specs.declared.Event.TheVariants.{Message}
@@ -20,7 +19,7 @@ use Rattle.cluster.specs.declared.Moved.{Moved}
 
 -- so many depots, the own pid, and majorities
 abbrev pub majority : ℕ → ℕ → Configuration
-majority depots pid = record { depots = depots; pid = pid; quorum = with_of flexible.Nothing depots }
+majority depots pid = record { depots = depots; pid = pid; quorum = with_of None depots }
 
 -- what a depot holds, as the rules of a step have it
 abbrev pub world_of : Site → World

@@ -8,7 +8,7 @@ ghost use Rattle.cluster.specs.Cluster.{majority, fresh_site, step_site, head_in
 use base::{MAX_LOG, MAX_MESSAGES, MAX_STORE};
 use hire_book::BOOK;
 use messages::{Event, Head, PaxosMessage, PaxosMsg, Row};
-use quorum::{Configuration, FlexibleConfig, Quorum};
+use quorum::{Configuration, Quorum};
 use record::Record;
 use step::Answer;
 
@@ -52,7 +52,7 @@ pub fn majority(depots: u64, pid: u64) -> Configuration
     Configuration {
         depots,
         pid,
-        quorum: Quorum::with(FlexibleConfig::Nothing, depots),
+        quorum: Quorum::with(None, depots),
     }
 }
 

@@ -1,4 +1,5 @@
 -- What each handler of a follower leaves, and by how much its plan grows.
+use Rattle.std.specs.Prelude.{Option, None, Some}
 use Prim.Native.Nat.{ℕ, ◌+◌, ◌≤◌, min}
 use mathlib.Core.Path.{◌≡◌, refl}
 use mathlib.Core.Logic.{inl, inr}
@@ -8,24 +9,21 @@ use lib.Dec.{ltb, eqb}
 use borrow.Author.Tests.{ltb-true, ltb-false}
 use Rattle.base.specs.Limits.{max_log}
 use Rattle.ballot.specs.Ballot.{compare_of, above, same}
+use Rattle.paxos_box.specs.declared.AcceptedAt.{AcceptedAt}
+use Rattle.paxos_box.specs.declared.CachedPromise.{CachedPromise}
+use Rattle.leader_state.specs.declared.LogSync.{LogSync}
 use Rattle.ballot.specs.declared.Ballot.{Ballot}
-use Rattle.ballot.specs.declared.Order.{Order}
-use Rattle.ballot.specs.declared.Order.TheVariants.{Less, Equal, Greater}
+use Rattle.std.specs.declared.cmp.Ordering.{Ordering}
+use Rattle.std.specs.declared.cmp.Ordering.TheVariants.{Less, Equal, Greater}
 use Rattle.ballot.proofs.Laws.{same-eq}
 use Rattle.sequence.specs.Sequence.{status_of}
 use Rattle.sequence.specs.declared.SequenceNumber.{SequenceNumber}
 use Rattle.sequence.specs.declared.MessageStatus.{MessageStatus}
 use Rattle.sequence.specs.declared.MessageStatus.TheVariants.{Expected, DroppedPreceding, Outdated}
 use Rattle.quorum.specs.declared.Configuration.{Configuration}
-use Rattle.leader_state.specs.declared.HeldSync.{HeldSync}
-use Rattle.leader_state.specs.declared.HeldSync.TheVariants.{Nothing, Held}
 use Rattle.messages.specs.declared.Prepare.{Prepare}
 use Rattle.messages.specs.declared.AcceptSync.{AcceptSync}
 use Rattle.paxos_box.specs.declared.SequencePaxos.{SequencePaxos}
-use Rattle.paxos_box.specs.declared.CachedMessage.{CachedMessage}
-use Rattle.paxos_box.specs.declared.CachedMessage.TheVariants as cached
-use Rattle.paxos_box.specs.declared.AcceptedMeta.{AcceptedMeta}
-use Rattle.paxos_box.specs.declared.AcceptedMeta.TheVariants as meta
 use Rattle.paxos_box.specs.declared.LogOp.TheVariants.{PutGiven}
 use Rattle.paxos_box.specs.declared.Phase.{Phase}
 use Rattle.paxos_box.specs.declared.Phase.TheVariants as phase
@@ -59,20 +57,20 @@ step-reconnected pid s p =
 promised-le : (prep : Prepare) (s : SequencePaxos) → count_of (promised_sync prep s) ≤ log_length s
 unfolding promised_sync
 promised-le prep s =
-    let P : HeldSync → Type 0 = λ x. count_of x ≤ log_length s in
+    let P : Option LogSync → Type 0 = λ x. count_of x ≤ log_length s in
     either P (above s.internal_storage.accepted_round prep.n_accepted) (log_from prep.decided_idx s) _
     (λ e. suffix-le (log_length s) prep.decided_idx)
-    (λ e. either P (same s.internal_storage.accepted_round prep.n_accepted) _ Nothing
-    (λ f. either P (ltb prep.accepted_idx (log_length s)) (log_from prep.accepted_idx s) Nothing (λ g. suffix-le (log_length s) prep.accepted_idx) (λ g. omega arith))
+    (λ e. either P (same s.internal_storage.accepted_round prep.n_accepted) _ None
+    (λ f. either P (ltb prep.accepted_idx (log_length s)) (log_from prep.accepted_idx s) None (λ g. suffix-le (log_length s) prep.accepted_idx) (λ g. omega arith))
     (λ f. omega arith))
 
-step-tell : (from : ℕ) (x : HeldSync) (s : SequencePaxos) → InPlace from s.config → count_of x ≤ max_log → Step 1 1 s (tell_promise from x s)
+step-tell : (from : ℕ) (x : Option LogSync) (s : SequencePaxos) → InPlace from s.config → count_of x ≤ max_log → Step 1 1 s (tell_promise from x s)
 unfolding tell_promise cache_promise
 step-tell from x s p h = step_then (built x) (one-step from (sent-push _ (cache_promise x (build_fits x s)) (rw (built x).config p) h))
   where
-    built : (x : HeldSync) → Step 0 0 s (build_fits x s)
-    built (Held y) = quiet_step (sent-fits y.sync_idx s)
-    built Nothing = step-none s
+    built : (x : Option LogSync) → Step 0 0 s (build_fits x s)
+    built (Some y) = quiet_step (sent-fits y.sync_idx s)
+    built None = step-none s
 
 step-prepare-taken : (prep : Prepare) (from : ℕ) (s : SequencePaxos) → InPlace from s.config → log_length s ≤ max_log → Rises s.internal_storage.promise prep.n → Step 1 1 s (prepare_taken prep from s)
 unfolding prepare_taken promise_to
@@ -93,7 +91,7 @@ step-prepare prep from s p l =
 step-by-ballot : (k : ℕ) (n : Ballot) (taken s : SequencePaxos) → InPlace n.pid s.config → 1 ≤ k → Step k k s taken → Step k k s (if_valid_ballot n taken s)
 step-by-ballot k n taken s p h x = by (compare_of s.internal_storage.promise n)
   where
-    by : (o : Order) → Step k k s (by_ballot o n taken s)
+    by : (o : Ordering) → Step k k s (by_ballot o n taken s)
     by Equal = x
     by Greater = step-more (one-step n.pid (sent-push _ s p (omega arith))) k (h, h)
     by Less = step-more (step-reconnected n.pid s p) k (h, h)
@@ -101,22 +99,22 @@ step-by-ballot k n taken s p h x = by (compare_of s.internal_storage.promise n)
 -- an Accepted, new or raised
 step-send-accepted : (n : Ballot) (idx to : ℕ) (s : SequencePaxos) → InPlace to s.config → Step 1 1 s (send_accepted n idx to s)
 unfolding send_accepted
-step-send-accepted n idx to s p = one-step to (sent-push _ (set_meta (meta.At (record { n = n; at = next_place s })) s) p (omega arith))
+step-send-accepted n idx to s p = one-step to (sent-push _ (set_meta (Some (record { n = n; at = next_place s })) s) p (omega arith))
 
 step-reply : (n : Ballot) (idx : ℕ) (s : SequencePaxos) → InPlace n.pid s.config → Step 1 1 s (reply_accepted n idx s)
 unfolding reply_accepted
 step-reply n idx s p = by (latest_accepted n s)
   where
-    by : (m : AcceptedMeta) → Step 1 1 s (reply_by m n idx s)
-    by (meta.At x) = one-step n.pid (sent-push _ s p (omega arith))
-    by meta.Nothing = step-send-accepted n idx n.pid s p
+    by : (m : Option AcceptedAt) → Step 1 1 s (reply_by m n idx s)
+    by (Some x) = one-step n.pid (sent-push _ s p (omega arith))
+    by None = step-send-accepted n idx n.pid s p
 
 -- AcceptSync: a forward of the buffered proposals, and the Accepted
 step-put : (m : AcceptSync) (count : ℕ) (s : SequencePaxos) → PromisedWithin s → s.buffered_proposals ≤ max_log → sync_unfit (given_sync m count) s.plan.sight.brought_change m.decided_idx s ≡ false → Step 1 1 s (acceptsync_put m count s)
 unfolding acceptsync_put sync_log
 step-put m count s w b e =
     let x = given_sync m count in
-    let t = set_cached cached.Nothing s in
+    let t = set_cached None s in
     let f = put-fits x s.plan.sight.brought_change m.decided_idx s e in
     step_then (step-synced m.n m.decided_idx (sync_end x) (PutGiven x) t f.brought (λ d. f.own) (omega (arith, f.within)))
     (step-forward-buffered (sync_log m.n m.decided_idx (sync_end x) (PutGiven x) t) w b)
@@ -211,23 +209,23 @@ step-decide n q decided s p =
     (λ e. step-more (step-none s) 1 (omega arith)))
 
 -- a Follower's resend; the cached promise's sync is within the log's limit and its ballot is a depot's (refusal 2)
-abbrev pub CachedWithin : Configuration → CachedMessage → Type 0
-CachedWithin c (cached.Held p) = (count_of p.sync ≤ max_log) × InPlace p.n.pid c
-CachedWithin c cached.Nothing = Unit {0}
+abbrev pub CachedWithin : Configuration → Option CachedPromise → Type 0
+CachedWithin c (Some p) = (count_of p.sync ≤ max_log) × InPlace p.n.pid c
+CachedWithin c None = Unit {0}
 
-pub step-resend-follower : (s : SequencePaxos) → Placed s.config → CachedWithin s.config s.cached_promise_message.message → Step 1 (most_sent s.config) s (resend_messages_follower s)
+pub step-resend-follower : (s : SequencePaxos) → Placed s.config → CachedWithin s.config s.cached_promise_message → Step 1 (most_sent s.config) s (resend_messages_follower s)
 unfolding resend_messages_follower
 step-resend-follower s h w = by s.state.phase
   where
     k : ℕ
     k = most_sent s.config
 
-    from-cache : (c : CachedMessage) → CachedWithin s.config c → Step 1 k s (resend_cached c s)
-    from-cache (cached.Held p) l = step-more (one-step p.n.pid (sent-push _ s l.1 l.0)) k (omega arith)
-    from-cache cached.Nothing l = step-more (once-step (sent-peers each.PrepareReq (recovering s) h tt)) k (omega arith)
+    from-cache : (c : Option CachedPromise) → CachedWithin s.config c → Step 1 k s (resend_cached c s)
+    from-cache (Some p) l = step-more (one-step p.n.pid (sent-push _ s l.1 l.0)) k (omega arith)
+    from-cache None l = step-more (once-step (sent-peers each.PrepareReq (recovering s) h tt)) k (omega arith)
 
     by : (p : Phase) → Step 1 k s (resend_in p s)
-    by phase.Prepare = from-cache s.cached_promise_message.message w
+    by phase.Prepare = from-cache s.cached_promise_message w
     by phase.Recover = step-more (once-step (sent-peers each.PrepareReq s h tt)) k (omega arith)
     by phase.Accept = step-more (step-none s) k (omega arith)
     by phase.None = step-more (step-none s) k (omega arith)

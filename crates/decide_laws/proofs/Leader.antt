@@ -1,4 +1,5 @@
 -- What each handler of a leader leaves, and by how much its plan grows.
+use Rattle.std.specs.Prelude.{Option, None, Some}
 use Prim.Native.Nat.{ℕ, ◌+◌, ◌-◌, ◌≤◌, ◌<◌, max}
 use mathlib.Core.Path.{◌≡◌, refl, ap}
 use mathlib.Core.Logic.{inl, inr}
@@ -12,11 +13,8 @@ use Rattle.ballot.specs.Ballot.{above, same}
 use Rattle.ballot.specs.declared.Ballot.{Ballot}
 use Rattle.quorum.specs.declared.Configuration.{Configuration}
 use Rattle.leader_state.specs.declared.LogSync.{LogSync}
-use Rattle.leader_state.specs.declared.HeldSync.{HeldSync}
-use Rattle.leader_state.specs.declared.HeldSync.TheVariants.{Nothing, Held}
 use Rattle.leader_state.specs.declared.PromiseMetaData.{PromiseMetaData}
 use Rattle.leader_state.specs.declared.PromiseState.TheVariants.{NotPromised, Promised, PromisedHigher}
-use Rattle.leader_state.specs.declared.Latest.TheVariants as latest
 use Rattle.leader_state.specs.State.{set_accepted, set_promise_state, set_latest}
 use Rattle.leader_state.specs.Promises.{beats_best, max_decided}
 use Rattle.leader_state.specs.Places.{promised_followers, preparable_peers}
@@ -89,7 +87,7 @@ sent-peers what s h f =
     sent-more (sent-marked (peers_of c) what c.depots s (omega arith) f) once (c.depots - 1) (up-to-one c.depots) (omega (arith, few-peers c h.depots h.positive h.own))
 
 -- a promise kept
-pub step-promise-kept : (m : PromiseMetaData) (sync : HeldSync) (check : Bool) (s : SequencePaxos) → InPlace m.pid s.config → Step 0 0 s (keep_promise m sync check s)
+pub step-promise-kept : (m : PromiseMetaData) (sync : Option LogSync) (check : Bool) (s : SequencePaxos) → InPlace m.pid s.config → Step 0 0 s (keep_promise m sync check s)
 step-promise-kept m sync check s h = step-places (one_place s.config.depots m.pid (set_promise_state (Promised m)) s.leader_state h.0 h.1)
 
 -- a leader event
@@ -102,7 +100,7 @@ step-become-leader : (n : Ballot) (s : SequencePaxos) → Placed s.config → ab
 unfolding new_leader own_promise become_leader
 step-become-leader n s h e =
     let t = new_leader n s in
-    let x = step_then (step-new-leader n s e) (step-promise-kept _ Nothing true t (h.positive, h.own)) in
+    let x = step_then (step-new-leader n s e) (step-promise-kept _ None true t (h.positive, h.own)) in
     step-more (step_then x (once-step (sent-peers each.Prepare (with_state (record { role = Leader; phase = phase.Prepare }) (own_promise t)) h tt))) (s.config.depots - 1) (omega arith)
 
 pub step-leader : (n : Ballot) (s : SequencePaxos) → Placed s.config → Step 1 (most_sent s.config) s (handle_leader n s)
@@ -122,8 +120,8 @@ unfolding prepare_again
 step-prepare-again from s p =
     let t = on_depot from (set_promise_state NotPromised) s in
     let x = sent-depot from (set_promise_state NotPromised) s p in
-    let y = sent-after x (sent-depot from (set_latest latest.Nothing) t p) in
-    one-step from (sent-after y (sent-prepare from (set_latest_of from latest.Nothing t) p))
+    let y = sent-after x (sent-depot from (set_latest None) t p) in
+    one-step from (sent-after y (sent-prepare from (set_latest_of from None t) p))
 
 pub step-prepare-req : (n : Ballot) (from : ℕ) (s : SequencePaxos) → InPlace from s.config → Step 1 1 s (handle_prepare_req n from s)
 unfolding handle_prepare_req
@@ -238,9 +236,9 @@ synced-best brought s h = by s.leader_state.max_promise.sync
     highest : ℕ
     highest = max_decided s.config.depots s.leader_state
 
-    by : (x : HeldSync) → Synced s (sync_by x brought highest s)
-    by (Held x) = synced-held x brought highest s h
-    by Nothing = synced-leader highest (log_length s) Keep s h h (λ d. d)
+    by : (x : Option LogSync) → Synced s (sync_by x brought highest s)
+    by (Some x) = synced-held x brought highest s h
+    by None = synced-leader highest (log_length s) Keep s h h (λ d. d)
 
 -- once the sync is on: the buffered proposals join, and each promised follower is synced
 step-all-synced : (u : SequencePaxos) → Placed u.config → Own u → log_length u ≤ max_log → Step 1 (u.config.depots - 1) u (for_followers each.AcceptSync (own_accepted (with_state (record { role = Leader; phase = phase.Accept }) (append_buffered (sync_taken u)))))
@@ -261,7 +259,7 @@ step-majority brought s h e l =
     step-more (step_then x.step (step-all-synced u (rw c h) (rw (n, c) e) x.within)) (s.config.depots - 1) (omega (arith, d))
 
 -- a Promise
-step-promise-prepare : (m : PromiseMetaData) (sync : HeldSync) (s : SequencePaxos) → Placed s.config → Own s → InPlace m.pid s.config → log_length s ≤ max_log → Step 1 (s.config.depots - 1) s (handle_promise_prepare m sync s)
+step-promise-prepare : (m : PromiseMetaData) (sync : Option LogSync) (s : SequencePaxos) → Placed s.config → Own s → InPlace m.pid s.config → log_length s ≤ max_log → Step 1 (s.config.depots - 1) s (handle_promise_prepare m sync s)
 unfolding handle_promise_prepare
 step-promise-prepare m sync s h e p l =
     let k = s.config.depots - 1 in
@@ -278,9 +276,9 @@ step-promise-prepare m sync s h e p l =
 step-promise-accept : (m : PromiseMetaData) (s : SequencePaxos) → InPlace m.pid s.config → log_length s ≤ max_log → Step 1 1 s (handle_promise_accept m s)
 unfolding handle_promise_accept
 step-promise-accept m s p l =
-    step_then (step-promise-kept m Nothing false s p) (one-step m.pid (sent-sync-to m.pid (keep_promise m Nothing false s) p l))
+    step_then (step-promise-kept m None false s p) (one-step m.pid (sent-sync-to m.pid (keep_promise m None false s) p l))
 
-pub step-promise : (n : Ballot) (m : PromiseMetaData) (sync : HeldSync) (s : SequencePaxos) → Placed s.config → LeadsOwn s → InPlace m.pid s.config → log_length s ≤ max_log → Step 1 (most_sent s.config) s (handle_promise n m sync s)
+pub step-promise : (n : Ballot) (m : PromiseMetaData) (sync : Option LogSync) (s : SequencePaxos) → Placed s.config → LeadsOwn s → InPlace m.pid s.config → log_length s ≤ max_log → Step 1 (most_sent s.config) s (handle_promise n m sync s)
 unfolding handle_promise
 step-promise n m sync s h own p l =
     either (Step 1 k s) (same n s.leader_state.n_leader) (promise_in (standing_of s.state.role s.state.phase) m sync s) s

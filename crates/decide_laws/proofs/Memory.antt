@@ -11,8 +11,8 @@ use lib.ListN.{take, set}
 use Rattle.base.specs.Count.{one}
 use Rattle.ballot.specs.Ballot.{compare_of}
 use Rattle.ballot.specs.declared.Ballot.{Ballot}
-use Rattle.ballot.specs.declared.Order.{Order}
-use Rattle.ballot.specs.declared.Order.TheVariants.{Less, Equal, Greater}
+use Rattle.std.specs.declared.cmp.Ordering.{Ordering}
+use Rattle.std.specs.declared.cmp.Ordering.TheVariants.{Less, Equal, Greater}
 use Rattle.messages.specs.declared.Event.{Event}
 use Rattle.messages.specs.declared.Event.TheVariants as event
 use Rattle.messages.specs.declared.PaxosMsg.{PaxosMsg}
@@ -124,7 +124,7 @@ module _ (pid : ℕ) where
       more : {n : ℕ} → n ≤ here s → n ≤ here s + 1
       more h = omega (arith, h)
 
-      by : (o : Order) (t : Standing) → here (by_ballot o m.n (acceptsync_in t m count from s) s) ≤ here s + 1
+      by : (o : Ordering) (t : Standing) → here (by_ballot o m.n (acceptsync_in t m count from s) s) ≤ here s + 1
       by Equal t = inn t
       by Greater t = more (memory-other _ s refl)
       by Less t = more (memory-reconnected m.n.pid s)

@@ -1,4 +1,5 @@
 -- What each send leaves, and that it is one thing more in the plan; to several depots, one for each that is marked.
+use Rattle.std.specs.Prelude.{Option, None, Some}
 use Prim.Native.Nat.{ℕ, zero, suc, ◌+◌, ◌-◌, ◌≤◌}
 use mathlib.Core.Path.{◌≡◌, refl, ap}
 use mathlib.Core.Bool.{Bool, true, false}
@@ -13,8 +14,6 @@ use Rattle.leader_state.specs.declared.Depot.{Depot}
 use Rattle.leader_state.specs.declared.PromiseMetaData.{PromiseMetaData}
 use Rattle.leader_state.specs.declared.PromiseState.{PromiseState}
 use Rattle.leader_state.specs.declared.PromiseState.TheVariants.{NotPromised, Promised, PromisedHigher}
-use Rattle.leader_state.specs.declared.Latest.{Latest}
-use Rattle.leader_state.specs.declared.Latest.TheVariants.{Nothing, At}
 use Rattle.leader_state.specs.State.{set_latest, next_session, next_counter}
 use Rattle.leader_state.proofs.Past.{one_place}
 use Rattle.paxos_box.specs.declared.SequencePaxos.{SequencePaxos}
@@ -74,7 +73,7 @@ unfolding new_session
 sent-new-session to s h =
     let x = sent-next-session to s h in
     let y = sent-after x (sent-next-counter to (next_session_of to s) (place-on to x h)) in
-    sent-after y (sent-depot to (set_latest Nothing) (next_seq_num_of to (next_session_of to s)) (place-on to y h))
+    sent-after y (sent-depot to (set_latest None) (next_seq_num_of to (next_session_of to s)) (place-on to y h))
 
 sent-accsync : (from to : ℕ) (s : SequencePaxos) → InPlace to s.config → log_length s ≤ max_log → SentOne to s (push_acc_sync from to s)
 unfolding push_acc_sync
@@ -104,18 +103,18 @@ sent-join from count to at s p h = sent-push _ s p h
 sent-decided-entries : (from count to : ℕ) (s : SequencePaxos) → InPlace to s.config → count ≤ max_log → SentOne to s (new_accept_decide from count to s)
 unfolding new_accept_decide push_accept_decide
 sent-decided-entries from count to s h l =
-    let x = sent-depot to (set_latest (At (next_place s))) s h in
-    let y = sent-after x (sent-next-counter to (set_latest_of to (At (next_place s)) s) (place-on to x h)) in
-    sent-after y (sent-push _ (next_seq_num_of to (set_latest_of to (At (next_place s)) s)) (place-on to y h) l)
+    let x = sent-depot to (set_latest (Some (next_place s))) s h in
+    let y = sent-after x (sent-next-counter to (set_latest_of to (Some (next_place s)) s) (place-on to x h)) in
+    sent-after y (sent-push _ (next_seq_num_of to (set_latest_of to (Some (next_place s)) s)) (place-on to y h) l)
 
 -- AcceptDecide, new or joined to the remembered one
 pub sent-accept-decide : (from count to : ℕ) (s : SequencePaxos) → InPlace to s.config → count ≤ max_log → SentOne to s (accept_decide_to from count to s)
 unfolding accept_decide_to
 sent-accept-decide from count to s h l = by (latest_accdec to s)
   where
-    by : (x : Latest) → SentOne to s (accept_decide_by from count to x s)
-    by (At at) = sent-join from count to at s h l
-    by Nothing = sent-decided-entries from count to s h l
+    by : (x : Option ℕ) → SentOne to s (accept_decide_by from count to x s)
+    by (Some at) = sent-join from count to at s h l
+    by None = sent-decided-entries from count to s h l
 
 sent-decide-new : (to : ℕ) (s : SequencePaxos) → InPlace to s.config → SentOne to s (push_decide to (next_seq_num_of to s))
 unfolding push_decide
@@ -126,9 +125,9 @@ pub sent-decide : (to : ℕ) (s : SequencePaxos) → InPlace to s.config → Sen
 unfolding decide_to
 sent-decide to s h = by (latest_accdec to s)
   where
-    by : (x : Latest) → SentOne to s (decide_by to x s)
-    by (At at) = sent-join 0 0 to at s h (omega arith)
-    by Nothing = sent-decide-new to s h
+    by : (x : Option ℕ) → SentOne to s (decide_by to x s)
+    by (Some at) = sent-join 0 0 to at s h (omega arith)
+    by None = sent-decide-new to s h
 
 pub sent-prepare : (to : ℕ) (s : SequencePaxos) → InPlace to s.config → SentOne to s (send_prepare to s)
 unfolding send_prepare

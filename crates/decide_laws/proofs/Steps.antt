@@ -35,7 +35,7 @@ pub record Unbroken (s : SequencePaxos) : Type 0 where
   pub placed : Placed s.config
   pub log : s.internal_storage.accepted_idx ≤ max_log
   pub buffer : s.buffered_proposals ≤ max_buffered
-  pub cached : CachedWithin s.config s.cached_promise_message.message
+  pub cached : CachedWithin s.config s.cached_promise_message
   pub own : LeadsOwn s
   pub promised : PromisedWithin s
 

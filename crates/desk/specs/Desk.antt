@@ -1,11 +1,10 @@
 -- The worked numbers (docs/RULES.md, R18): a row for each of R18.1 to R18.13, p1 to p13, each said of the definition that the code's promise cites.
-use Rattle.std.specs.Prelude.{ℕ, ◌≡◌, true, false, List, [], ◌∷◌}
+use Rattle.std.specs.Prelude.{ℕ, ◌≡◌, true, false, List, [], ◌∷◌, None}
 use Rattle.ballot.specs.declared.Ballot.{Ballot}
 use Rattle.sequence.specs.declared.SequenceNumber.{SequenceNumber}
 use Rattle.sequence.specs.declared.MessageStatus.TheVariants.{Expected, DroppedPreceding, Outdated}
 use Rattle.sequence.specs.Sequence.{status_of}
 use Rattle.quorum.specs.declared.Configuration.{Configuration}
-use Rattle.quorum.specs.declared.FlexibleConfig.TheVariants as config
 use Rattle.quorum.specs.declared.Quorum.TheVariants.{Majority, Flexible}
 use Rattle.quorum.specs.Quorum.{with_of, read_size, write_size, stands_of}
 use Rattle.leader_state.specs.declared.LeaderState.{LeaderState}
@@ -28,7 +27,7 @@ seq session counter = record { session = session; counter = counter }
 
 -- three depots with a majority, whose reported accepted indexes are 4, 4 and 0
 abbrev pub three : Configuration
-three = record { depots = 3; pid = 1; quorum = with_of config.Nothing 3 }
+three = record { depots = 3; pid = 1; quorum = with_of None 3 }
 
 abbrev pub at : ℕ → Depot
 at idx = set_accepted idx fresh
@@ -51,7 +50,7 @@ again = 5127 ∷ 7431 ∷ 7431 ∷ []
 
 pub record Desk : Type 0 where
   -- majority of 5 is 3, of 2 is 2
-  pub p1 : (with_of config.Nothing 5 ≡ Majority 3) × (with_of config.Nothing 2 ≡ Majority 2)
+  pub p1 : (with_of None 5 ≡ Majority 3) × (with_of None 2 ≡ Majority 2)
   -- five depots, read 4 and write 2 stand; read 3 and write 2 get 1, whatever the event and whatever is lent
   pub p2 : stands_of (five_with 4 2) ≡ true
   pub p3 : (e : Event) (entries : List ℕ) (w : World) → (step_of (five_with 3 2) e entries w).answer.no ≡ 1

@@ -1,4 +1,5 @@
 -- AcceptSync, AcceptDecide and Decide at a follower.
+use Rattle.std.specs.Prelude.{None}
 use Prim.Native.Nat.{ℕ, suc, ◌+◌, ◌<◌, min, max}
 use mathlib.Core.Path.{◌≡◌, refl, sym, ap, ◌∙◌, subst}
 use mathlib.Core.Logic.{◌⊎◌, inl, inr, ◌≢◌}
@@ -24,7 +25,6 @@ use Rattle.paxos_box.specs.declared.Sight.{Sight}
 use Rattle.paxos_box.specs.declared.State.{State}
 use Rattle.paxos_box.specs.declared.Source.TheVariants as source
 use Rattle.paxos_box.specs.declared.LogOp.TheVariants.{PutGiven}
-use Rattle.paxos_box.specs.declared.CachedMessage.TheVariants as cached
 use Rattle.paxos_box.specs.declared.Role.{Role}
 use Rattle.paxos_box.specs.declared.Role.TheVariants.{Leader, Follower}
 use Rattle.paxos_box.specs.declared.Phase.{Phase}
@@ -125,16 +125,16 @@ module _ (conf : Configuration) (q₀ : ℕ) (sight : Sight) (es : List ℕ) (v 
       m = record { n = n; seq_num = sq; decided_idx = d; sync_idx = i }
 
       abbrev put : SequencePaxos
-      put = sync_log n d (i + length es) (PutGiven (given_sync m (length es))) (set_cached cached.Nothing s)
+      put = sync_log n d (i + length es) (PutGiven (given_sync m (length es))) (set_cached None s)
 
       abbrev st : State
       st = record { role = Follower; phase = phase.Accept }
 
-      face-put : mid_face es v (following sq put) ≡ took_to n (max v.node.internal_storage.decided_idx d) (take i v.log ++ es) (i + length es) st sq cached.Nothing [] (face_of v)
+      face-put : mid_face es v (following sq put) ≡ took_to n (max v.node.internal_storage.decided_idx d) (take i v.log ++ es) (i + length es) st sq None [] (face_of v)
       unfolding sync_log following perform_all
       face-put =
-          ap (took_to n (max v.node.internal_storage.decided_idx d) ((take i v.log ++ take (length es) es) ++ []) (i + length es) st sq cached.Nothing []) (face-found conf q₀ sight es v cnt)
-          ∙ ap (λ l. took_to n (max v.node.internal_storage.decided_idx d) l (i + length es) st sq cached.Nothing [] (face_of v)) (append-nil (take i v.log ++ take (length es) es) ∙ ap (λ l. take i v.log ++ l) (take_all (length es) es (omega arith)))
+          ap (took_to n (max v.node.internal_storage.decided_idx d) ((take i v.log ++ take (length es) es) ++ []) (i + length es) st sq None []) (face-found conf q₀ sight es v cnt)
+          ∙ ap (λ l. took_to n (max v.node.internal_storage.decided_idx d) l (i + length es) st sq None [] (face_of v)) (append-nil (take i v.log ++ take (length es) es) ∙ ap (λ l. take i v.log ++ l) (take_all (length es) es (omega arith)))
 
       ready-put : Ready 0 es v (following sq put)
       unfolding sync_log following perform_all

@@ -1,4 +1,5 @@
 -- What a leader sends to each promised follower, one after the other: what a send leaves as it was, and how far the loop has come.
+use Rattle.std.specs.Prelude.{Option, None, Some}
 use Prim.Native.Nat.{ℕ, ◌+◌, ◌≤◌, ◌<◌}
 use mathlib.Core.Path.{◌≡◌, refl, sym, ap, ◌∙◌, subst}
 use mathlib.Core.Bool.{Bool, true, false, cond}
@@ -13,8 +14,6 @@ use Rattle.sequence.specs.declared.SequenceNumber.{SequenceNumber}
 use Rattle.leader_state.specs.declared.Depot.{Depot}
 use Rattle.leader_state.specs.declared.LeaderState.{LeaderState}
 use Rattle.leader_state.specs.declared.PromiseMetaData.{PromiseMetaData}
-use Rattle.leader_state.specs.declared.Latest.{Latest}
-use Rattle.leader_state.specs.declared.Latest.TheVariants.{Nothing, At}
 use Rattle.leader_state.specs.State.{with_depot, set_latest, next_session, next_counter}
 use Rattle.messages.specs.declared.PaxosMsg.TheVariants as msg
 use Rattle.paxos_box.specs.declared.SequencePaxos.{SequencePaxos}
@@ -95,20 +94,20 @@ clean-next : (to : ℕ) (s : SequencePaxos) → Clean (next_seq_num_of to s) →
 clean-next to s k = let a : Clean (on_depot to next_counter s) = subst Clean (counter-clean to s k) k in record { fit = a.fit; low = a.low }
 
 -- what came before a send with a number
-pub clean-entries : (from count to : ℕ) (l : Latest) (s : SequencePaxos) → Clean (accept_decide_by from count to l s) → Clean s
+pub clean-entries : (from count to : ℕ) (l : Option ℕ) (s : SequencePaxos) → Clean (accept_decide_by from count to l s) → Clean s
 unfolding join_to new_accept_decide push_accept_decide
-clean-entries from count to (At at) s k = clean-push _ s k
-clean-entries from count to Nothing s k =
-    let a : Clean (set_latest_of to (At (next_place s)) s) = clean-next to (set_latest_of to (At (next_place s)) s) (clean-push _ (next_seq_num_of to (set_latest_of to (At (next_place s)) s)) k) in
+clean-entries from count to (Some at) s k = clean-push _ s k
+clean-entries from count to None s k =
+    let a : Clean (set_latest_of to (Some (next_place s)) s) = clean-next to (set_latest_of to (Some (next_place s)) s) (clean-push _ (next_seq_num_of to (set_latest_of to (Some (next_place s)) s)) k) in
     record { fit = a.fit; low = a.low }
 
-pub clean-decide : (to : ℕ) (l : Latest) (s : SequencePaxos) → Clean (decide_by to l s) → Clean s
+pub clean-decide : (to : ℕ) (l : Option ℕ) (s : SequencePaxos) → Clean (decide_by to l s) → Clean s
 unfolding join_to push_decide
-clean-decide to (At at) s k = clean-push _ s k
-clean-decide to Nothing s k = clean-next to s (clean-push _ (next_seq_num_of to s) k)
+clean-decide to (Some at) s k = clean-push _ s k
+clean-decide to None s k = clean-next to s (clean-push _ (next_seq_num_of to s) k)
 
 abbrev pub session-box : ℕ → SequencePaxos → SequencePaxos
-session-box to s = on_depot to (set_latest Nothing) (on_depot to next_counter (on_depot to next_session s))
+session-box to s = on_depot to (set_latest None) (on_depot to next_counter (on_depot to next_session s))
 
 session-is : (to : ℕ) (s : SequencePaxos) → Clean (new_session to s) → (new_session to s ≡ session-box to s) × Clean s
 unfolding new_session
@@ -119,7 +118,7 @@ session-is to s k =
     let k₃ : Clean (next_session_of to s) = record { fit = k₂.fit; low = k₂.low } in
     let e₁ : next_session_of to s ≡ on_depot to next_session s = session-clean to s k₃ in
     let k₄ : Clean (on_depot to next_session s) = subst Clean e₁ k₃ in
-    (ap (λ (y : SequencePaxos). on_depot to (set_latest Nothing) y) (e₂ ∙ ap (λ (y : SequencePaxos). on_depot to next_counter y) e₁), record { fit = k₄.fit; low = k₄.low })
+    (ap (λ (y : SequencePaxos). on_depot to (set_latest None) y) (e₂ ∙ ap (λ (y : SequencePaxos). on_depot to next_counter y) e₁), record { fit = k₄.fit; low = k₄.low })
 
 -- ---- an AcceptSync to t
 module _ (es : List ℕ) (v : View) (t : ℕ) (m : PromiseMetaData) (s : SequencePaxos) where
@@ -141,7 +140,7 @@ module _ (es : List ℕ) (v : View) (t : ℕ) (m : PromiseMetaData) (s : Sequenc
       let l₂ : LeaderState = with_depot (t + 1) next_counter l₁ in
       let p₁ : Puts t (next_session (place t l)) l l₁ = puts_of t l row lt next_session in
       let p₂ : Puts t (next_counter (next_session (place t l))) l₁ l₂ = puts-is (ap next_counter p₁.here) (puts_of t l₁ p₁.row lt next_counter) in
-      let p₃ : Puts t (set_latest Nothing (next_counter (next_session (place t l)))) l₂ (session-box (t + 1) s).leader_state = puts-is (ap (set_latest Nothing) p₂.here) (puts_of t l₂ p₂.row lt (set_latest Nothing)) in
+      let p₃ : Puts t (set_latest None (next_counter (next_session (place t l)))) l₂ (session-box (t + 1) s).leader_state = puts-is (ap (set_latest None) p₂.here) (puts_of t l₂ p₂.row lt (set_latest None)) in
       puts_then (puts_then p₁ p₂) p₃
 
   pub face-sync : {k : ℕ} → Ready k es v s → k < 8 → s.internal_storage.accepted_idx ≡ length (mid_log es v s.plan.writes) → from ≤ log_length s → length s.leader_state.depots ≡ max_depots → t < max_depots

@@ -1,4 +1,5 @@
 -- A leader event: the own ballot, or another's.
+use Rattle.std.specs.Prelude.{None}
 use Prim.Native.Nat.{ℕ, ◌+◌, ◌≤◌, ◌<◌}
 use mathlib.Core.Path.{◌≡◌, refl, sym, ap, ◌∙◌, subst}
 use mathlib.Core.Logic.{◌⊎◌, inl, inr, ◌≢◌}
@@ -18,7 +19,6 @@ use Rattle.leader_state.specs.declared.LeaderState.{LeaderState}
 use Rattle.leader_state.specs.declared.MaxPromise.{MaxPromise}
 use Rattle.leader_state.specs.declared.PromiseMetaData.{PromiseMetaData}
 use Rattle.leader_state.specs.declared.PromiseState.TheVariants.{Promised}
-use Rattle.leader_state.specs.declared.HeldSync.TheVariants as held
 use Rattle.leader_state.specs.State.{fresh, no_best, with_depot, with_of, set_promise_state}
 use Rattle.leader_state.specs.Promises.{beats, promise_kept}
 use Rattle.paxos_box.specs.declared.SequencePaxos.{SequencePaxos}
@@ -62,7 +62,7 @@ module _ (quo : Quorum) (q₀ : ℕ) (sight : Sight) (es : List ℕ) (v : View) 
     l₀ = with_of n z.depots v.node.leader_state
 
     abbrev l : LeaderState
-    l = promise_kept own held.Nothing true l₀
+    l = promise_kept own None true l₀
 
     abbrev y : SequencePaxos
     y = with_state (record { role = Leader; phase = phase.Prepare }) (own_promise (new_leader n s))
@@ -79,14 +79,14 @@ module _ (quo : Quorum) (q₀ : ℕ) (sight : Sight) (es : List ℕ) (v : View) 
     p = puts_of b l₀ row₀ (omega arith) (set_promise_state (Promised own))
 
     -- the own promise is the best, or there was nothing to be better than
-    best : (t : Bool) → beats own no_best.meta ≡ t → (x : MaxPromise) → x ≡ cond t (record { meta = own; sync = held.Nothing }) no_best
-        → (x.meta.n_accepted ≡ v.node.internal_storage.accepted_round) × (x.meta.accepted_idx ≡ length v.log) × (x.sync ≡ held.Nothing)
+    best : (t : Bool) → beats own no_best.meta ≡ t → (x : MaxPromise) → x ≡ cond t (record { meta = own; sync = None }) no_best
+        → (x.meta.n_accepted ≡ v.node.internal_storage.accepted_round) × (x.meta.accepted_idx ≡ length v.log) × (x.sync ≡ None)
     best true e x q = rw q (refl, sym cnt.log, refl)
     best false e x q =
         let k : (v.node.internal_storage.accepted_round ≡ default) × (v.node.internal_storage.accepted_idx ≡ 0) = within-nothing (beats-not own no_best.meta e) in
         rw q (sym k.0, omega (arith, k.1, cnt.log), refl)
 
-    bests : (l.max_promise.meta.n_accepted ≡ v.node.internal_storage.accepted_round) × (l.max_promise.meta.accepted_idx ≡ length v.log) × (l.max_promise.sync ≡ held.Nothing)
+    bests : (l.max_promise.meta.n_accepted ≡ v.node.internal_storage.accepted_round) × (l.max_promise.meta.accepted_idx ≡ length v.log) × (l.max_promise.sync ≡ None)
     unfolding with_of
     bests = best (beats own no_best.meta) refl l.max_promise refl
 

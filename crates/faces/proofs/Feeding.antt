@@ -1,4 +1,5 @@
 -- Each promised follower is told of what the log has gained, or of the decided index.
+use Rattle.std.specs.Prelude.{Some}
 use Prim.Native.Nat.{ℕ, zero, suc, ◌+◌, ◌≤◌, ◌<◌}
 use mathlib.Core.Path.{◌≡◌, refl, sym, ap, ◌∙◌, subst}
 use mathlib.Core.Logic.{◌⊎◌, inl, inr, ◌≢◌}
@@ -16,7 +17,6 @@ use Rattle.ballot.specs.Ballot.{same}
 use Rattle.ballot.specs.declared.Ballot.{Ballot}
 use Rattle.ballot.proofs.Laws.{same-eq, same_refl as same_self}
 use Rattle.leader_state.specs.declared.LeaderState.{LeaderState}
-use Rattle.leader_state.specs.declared.Latest.TheVariants.{At}
 use Rattle.leader_state.specs.Promises.{is_promised}
 use Rattle.paxos_box.specs.declared.SequencePaxos.{SequencePaxos}
 use Rattle.paxos_box.specs.declared.InternalStorage.{InternalStorage}
@@ -101,7 +101,7 @@ pub record Feeding (es : List ℕ) (v : View) (z : Sizes) (P : ℕ → Type 0) (
 
 module _ (es : List ℕ) (v : View) (z : Sizes) {P : ℕ → Type 0} {b : ℕ} {c : Scene} {g : Ghost ℕ} (few : z.depots ≤ max_depots) (s₀ : SequencePaxos) (st : s₀.state ≡ record { role = Leader; phase = phase.Accept })
     (pid : s₀.leader_state.n_leader.pid ≡ b + 1) (log xs : List ℕ) (all : log ++ xs ≡ g.G s₀.internal_storage.promise) (what : Each) (carries : Carries es v what xs s₀.plan.writes)
-    (on : (t at : ℕ) → t < z.depots → (place t s₀.leader_state).latest ≡ At at → get_or s₀.plan.sight.accdec t false ≡ true) where
+    (on : (t at : ℕ) → t < z.depots → (place t s₀.leader_state).latest ≡ Some at → get_or s₀.plan.sight.accdec t false ≡ true) where
   -- one more
   one : (t : ℕ) (s : SequencePaxos) → t < z.depots → is_promised (place t s₀.leader_state).promise ≡ true → Feeding es v z P b c g log s₀ t s → Clean (send_one what (t + 1) s)
       → Told es v z P b c g t (suc t) (whole_at g s₀.internal_storage.promise log s₀.leader_state (suc t)) s (send_one what (t + 1) s) × Clean s
@@ -129,7 +129,7 @@ module _ (es : List ℕ) (v : View) (z : Sizes) {P : ℕ → Type 0} {b : ℕ} {
       pr' : is_promised (place t s.leader_state).promise ≡ true
       pr' = ap is_promised (o.stays.promise t) ∙ pr
 
-      on' : (at : ℕ) → (place t s.leader_state).latest ≡ At at → get_or s.plan.sight.accdec t false ≡ true
+      on' : (at : ℕ) → (place t s.leader_state).latest ≡ Some at → get_or s.plan.sight.accdec t false ≡ true
       on' at q = ap (λ (k : Sight). get_or k.accdec t false) o.stays.sight ∙ on t at lt (sym (o.latest t (le_refl t)) ∙ q)
 
       by : (w : Each) → Carries es v w xs s.plan.writes → Clean (send_one w (t + 1) s) → Told es v z P b c g t (suc t) (whole_at g n log l₀ (suc t)) s (send_one w (t + 1) s) × Clean s

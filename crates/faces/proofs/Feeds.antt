@@ -1,4 +1,5 @@
 -- Entries that the log has gained, or a decided index, to each promised follower: in a message of their own, or in the one that is remembered.
+use Rattle.std.specs.Prelude.{Option, None, Some}
 use Prim.Native.Nat.{ℕ, suc, ◌+◌, ◌-◌, ◌≤◌, ◌<◌}
 use mathlib.Core.Path.{◌≡◌, refl, sym, ap, ◌∙◌, subst}
 use mathlib.Core.Logic.{◌⊎◌, ◌≢◌}
@@ -14,8 +15,6 @@ use Rattle.ballot.proofs.Laws.{same_refl as same_self}
 use Rattle.sequence.specs.declared.SequenceNumber.{SequenceNumber}
 use Rattle.leader_state.specs.declared.Depot.{Depot}
 use Rattle.leader_state.specs.declared.LeaderState.{LeaderState}
-use Rattle.leader_state.specs.declared.Latest.{Latest}
-use Rattle.leader_state.specs.declared.Latest.TheVariants.{Nothing, At}
 use Rattle.leader_state.specs.declared.MaxPromise.{MaxPromise}
 use Rattle.leader_state.specs.State.{fresh, with_depot, set_latest, next_counter}
 use Rattle.leader_state.specs.Promises.{is_promised}
@@ -62,7 +61,7 @@ pub record Told (es : List ℕ) (v : View) (z : Sizes) (P : ℕ → Type 0) (b :
   pub near : Near z P b c g whole (λ m u. feeds_by m u s'.state s'.leader_state) (mid_face es v s')
   pub latest : (u : ℕ) → u ≢ t → (place u s'.leader_state).latest ≡ (place u s.leader_state).latest
 
-at-is : {i j : ℕ} {l : Latest} → l ≡ At i → l ≡ At j → i ≡ j
+at-is : {i j : ℕ} {l : Option ℕ} → l ≡ Some i → l ≡ Some j → i ≡ j
 at-is p q = cc
 
 module _ (es : List ℕ) (v : View) {z : Sizes} {P : ℕ → Type 0} {b : ℕ} {c : Scene} {g : Ghost ℕ} (few : z.depots ≤ max_depots) {whole : Ballot → ℕ → List ℕ} {k : ℕ} (h : k < 8) (s : SequencePaxos)
@@ -108,10 +107,10 @@ module _ (es : List ℕ) (v : View) {z : Sizes} {P : ℕ → Type 0} {b : ℕ} {
   new-entries from count ex q = (subst (Told es v z P b c g t (suc k) whole' s) (sym is) told, clean)
     where
       l₁ : LeaderState
-      l₁ = with_depot (t + 1) (set_latest (At (next_place s))) s.leader_state
+      l₁ = with_depot (t + 1) (set_latest (Some (next_place s))) s.leader_state
 
       y : SequencePaxos
-      y = set_latest_of (t + 1) (At (next_place s)) s
+      y = set_latest_of (t + 1) (Some (next_place s)) s
 
       q₁ : Clean (next_seq_num_of (t + 1) y)
       q₁ = clean-push _ (next_seq_num_of (t + 1) y) q
@@ -126,11 +125,11 @@ module _ (es : List ℕ) (v : View) {z : Sizes} {P : ℕ → Type 0} {b : ℕ} {
       l = with_depot (t + 1) next_counter l₁
 
       d : Depot
-      d = next_counter (set_latest (At (next_place s)) (place t s.leader_state))
+      d = next_counter (set_latest (Some (next_place s)) (place t s.leader_state))
 
       p : Puts t d s.leader_state l
       p =
-          let a : Puts t (set_latest (At (next_place s)) (place t s.leader_state)) s.leader_state l₁ = puts_of t s.leader_state w.node.row (omega arith) (set_latest (At (next_place s))) in
+          let a : Puts t (set_latest (Some (next_place s)) (place t s.leader_state)) s.leader_state l₁ = puts_of t s.leader_state w.node.row (omega arith) (set_latest (Some (next_place s))) in
           puts_then a (puts-is (ap next_counter a.here) (puts_of t l₁ a.row (omega arith) next_counter))
 
       m : PaxosMsg
@@ -152,7 +151,7 @@ module _ (es : List ℕ) (v : View) {z : Sizes} {P : ℕ → Type 0} {b : ℕ} {
           })
 
   -- a decided index
-  new-decide : xs ≡ [] → (place t s.leader_state).latest ≡ Nothing → Clean (push_decide (t + 1) (next_seq_num_of (t + 1) s)) → Told es v z P b c g t (suc k) whole' s (push_decide (t + 1) (next_seq_num_of (t + 1) s)) × Clean s
+  new-decide : xs ≡ [] → (place t s.leader_state).latest ≡ None → Clean (push_decide (t + 1) (next_seq_num_of (t + 1) s)) → Told es v z P b c g t (suc k) whole' s (push_decide (t + 1) (next_seq_num_of (t + 1) s)) × Clean s
   unfolding push_decide
   new-decide ex non q = (subst (Told es v z P b c g t (suc k) whole' s) (sym is) told, clean)
     where
@@ -189,7 +188,7 @@ module _ (es : List ℕ) (v : View) {z : Sizes} {P : ℕ → Type 0} {b : ℕ} {
           (λ j ne. not-of _ (λ a. ne (sym a ∙ lead.now))) (record { stands = λ at a. no-latest non a })
 
   -- ---- in the one that is remembered
-  join : (from count at : ℕ) → take count (drop from (mid_log es v s.plan.writes)) ≡ xs → (place t s.leader_state).latest ≡ At at → Told es v z P b c g t (suc k) whole' s (join_to from count (t + 1) at s)
+  join : (from count at : ℕ) → take count (drop from (mid_log es v s.plan.writes)) ≡ xs → (place t s.leader_state).latest ≡ Some at → Told es v z P b c g t (suc k) whole' s (join_to from count (t + 1) at s)
   unfolding join_to push_of perform_one
   join from count at ex e =
       record {
@@ -212,32 +211,32 @@ module _ (es : List ℕ) (v : View) {z : Sizes} {P : ℕ → Type 0} {b : ℕ} {
           ∙ ap (λ l. set (mid_face es v s).queue at (joining t s.internal_storage.decided_idx l a.what a.entries)) ex
 
   -- ---- the one or the other
-  module _ (on : (at : ℕ) → (place t s.leader_state).latest ≡ At at → get_or s.plan.sight.accdec t false ≡ true) where
+  module _ (on : (at : ℕ) → (place t s.leader_state).latest ≡ Some at → get_or s.plan.sight.accdec t false ≡ true) where
     latest-is : latest_accdec (t + 1) s ≡ (place t s.leader_state).latest
     unfolding latest_accdec
     latest-is =
         let e : t + 1 - 1 ≡ t = omega arith in
         ap (λ i. stands (get_or s.plan.sight.accdec i false) (get_or s.leader_state.depots i fresh).latest) e ∙ go (get_or s.plan.sight.accdec t false) refl (place t s.leader_state).latest refl
       where
-        go : (x : Bool) → get_or s.plan.sight.accdec t false ≡ x → (y : Latest) → (place t s.leader_state).latest ≡ y → stands x y ≡ y
+        go : (x : Bool) → get_or s.plan.sight.accdec t false ≡ x → (y : Option ℕ) → (place t s.leader_state).latest ≡ y → stands x y ≡ y
         go true p y q = refl
-        go false p Nothing q = refl
-        go false p (At i) q = absurd (not-both (on i q) p)
+        go false p None q = refl
+        go false p (Some i) q = absurd (not-both (on i q) p)
 
     pub told_entries : (from count : ℕ) → take count (drop from (mid_log es v s.plan.writes)) ≡ xs → Clean (accept_decide_to from count (t + 1) s) → Told es v z P b c g t (suc k) whole' s (accept_decide_to from count (t + 1) s) × Clean s
     unfolding accept_decide_to join_to
     told_entries from count ex q =
         subst (λ y. Clean (accept_decide_by from count (t + 1) y s) → Told es v z P b c g t (suc k) whole' s (accept_decide_by from count (t + 1) y s) × Clean s) (sym latest-is) (λ q. by (place t s.leader_state).latest refl q) q
       where
-        by : (y : Latest) → (place t s.leader_state).latest ≡ y → Clean (accept_decide_by from count (t + 1) y s) → Told es v z P b c g t (suc k) whole' s (accept_decide_by from count (t + 1) y s) × Clean s
-        by Nothing e q = new-entries from count ex q
-        by (At at) e q = (join from count at ex e, clean-push _ s q)
+        by : (y : Option ℕ) → (place t s.leader_state).latest ≡ y → Clean (accept_decide_by from count (t + 1) y s) → Told es v z P b c g t (suc k) whole' s (accept_decide_by from count (t + 1) y s) × Clean s
+        by None e q = new-entries from count ex q
+        by (Some at) e q = (join from count at ex e, clean-push _ s q)
 
     pub told-decide : xs ≡ [] → Clean (decide_to (t + 1) s) → Told es v z P b c g t (suc k) whole' s (decide_to (t + 1) s) × Clean s
     unfolding decide_to join_to
     told-decide ex q =
         subst (λ y. Clean (decide_by (t + 1) y s) → Told es v z P b c g t (suc k) whole' s (decide_by (t + 1) y s) × Clean s) (sym latest-is) (λ q. by (place t s.leader_state).latest refl q) q
       where
-        by : (y : Latest) → (place t s.leader_state).latest ≡ y → Clean (decide_by (t + 1) y s) → Told es v z P b c g t (suc k) whole' s (decide_by (t + 1) y s) × Clean s
-        by Nothing e q = new-decide ex e q
-        by (At at) e q = (join 0 0 at (sym ex) e, clean-push _ s q)
+        by : (y : Option ℕ) → (place t s.leader_state).latest ≡ y → Clean (decide_by (t + 1) y s) → Told es v z P b c g t (suc k) whole' s (decide_by (t + 1) y s) × Clean s
+        by None e q = new-decide ex e q
+        by (Some at) e q = (join 0 0 at (sym ex) e, clean-push _ s q)

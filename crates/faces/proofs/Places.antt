@@ -1,4 +1,5 @@
 -- The leader's record with one place changed, and what its marks and counts say of its places.
+use Rattle.std.specs.Prelude.{None}
 use Prim.Native.Nat.{ℕ, zero, suc, ◌+◌, ◌-◌, ◌≤◌, ◌<◌, max}
 use mathlib.Core.Path.{◌≡◌, refl, sym, ap, ◌∙◌, subst}
 use mathlib.Core.Logic.{◌⊎◌, inl, inr, ◌≢◌}
@@ -17,8 +18,8 @@ use Rattle.base.proofs.Lists.{get_d_tabulate}
 use Rattle.base.proofs.Meet.{count-places}
 use Rattle.ballot.specs.Ballot.{compare_of, is_above, is_same, above, same}
 use Rattle.ballot.specs.declared.Ballot.{Ballot}
-use Rattle.ballot.specs.declared.Order.{Order}
-use Rattle.ballot.specs.declared.Order.TheVariants.{Less, Equal, Greater}
+use Rattle.std.specs.declared.cmp.Ordering.{Ordering}
+use Rattle.std.specs.declared.cmp.Ordering.TheVariants.{Less, Equal, Greater}
 use Rattle.ballot.proofs.Laws.{total, same_refl as same_self}
 use Rattle.quorum.specs.Quorum.{read_size, write_size, reaches_read, reaches_write}
 use Rattle.quorum.specs.declared.Configuration.{Configuration}
@@ -27,7 +28,6 @@ use Rattle.leader_state.specs.declared.LeaderState.{LeaderState}
 use Rattle.leader_state.specs.declared.PromiseMetaData.{PromiseMetaData}
 use Rattle.leader_state.specs.declared.PromiseState.{PromiseState}
 use Rattle.leader_state.specs.declared.PromiseState.TheVariants.{NotPromised, Promised, PromisedHigher}
-use Rattle.leader_state.specs.declared.Latest.TheVariants as latest
 use Rattle.leader_state.specs.State.{fresh, depot_of, with_depot}
 use Rattle.leader_state.specs.Promises.{is_promised, decided_state, promised_count, max_decided, by_order, beats}
 use Rattle.leader_state.specs.Places.{accepted_at, chosen, is_follower, promised_followers}
@@ -64,7 +64,7 @@ puts-is e p = record { row = p.row; ballot = p.ballot; best = p.best; here = p.h
 
 -- one place has less in it
 pub less-puts : {z : Sizes} {t : ℕ} {d : Depot} {l l' : LeaderState} → Puts t d l l' → d.seq_num ≡ (place t l).seq_num → (d.promise ≡ (place t l).promise) ⊎ (is_promised d.promise ≡ false)
-    → (d.latest ≡ (place t l).latest) ⊎ (d.latest ≡ latest.Nothing) → Fewer z l l'
+    → (d.latest ≡ (place t l).latest) ⊎ (d.latest ≡ None) → Fewer z l l'
 less-puts {z} {t} {d} {l} {l'} p en ep el =
     record {
       row = p.row;
@@ -83,7 +83,7 @@ less-puts {z} {t} {d} {l} {l'} p en ep el =
     promise u (inl e) = rw (e, p.here) ep
     promise u (inr e) = inl (rw (p.else u e))
 
-    late : (u : ℕ) → (u ≡ t) ⊎ (u ≢ t) → ((place u l').latest ≡ (place u l).latest) ⊎ ((place u l').latest ≡ latest.Nothing)
+    late : (u : ℕ) → (u ≡ t) ⊎ (u ≢ t) → ((place u l').latest ≡ (place u l).latest) ⊎ ((place u l').latest ≡ None)
     late u (inl e) = rw (e, p.here) el
     late u (inr e) = inl (rw (p.else u e))
 
@@ -110,7 +110,7 @@ pub beats-so : (a c : PromiseMetaData) → beats a c ≡ true → Beats a.n_acce
 unfolding beats above
 beats-so a c e = go (compare_of a.n_accepted c.n_accepted) refl e
   where
-    go : (o : Order) → compare_of a.n_accepted c.n_accepted ≡ o → by_order o (ltb c.accepted_idx a.accepted_idx) ≡ true → Beats a.n_accepted a.accepted_idx c.n_accepted c.accepted_idx
+    go : (o : Ordering) → compare_of a.n_accepted c.n_accepted ≡ o → by_order o (ltb c.accepted_idx a.accepted_idx) ≡ true → Beats a.n_accepted a.accepted_idx c.n_accepted c.accepted_idx
     go Greater p q = higher (record { is = ap is_above p })
     go Equal p q = longer (sym (equal_is a.n_accepted c.n_accepted p)) (ltb-true c.accepted_idx a.accepted_idx q)
     go Less p q = absurd (not-both q refl)
@@ -119,7 +119,7 @@ pub beats-not : (a c : PromiseMetaData) → beats a c ≡ false → Within a.n_a
 unfolding beats
 beats-not a c e = go (compare_of a.n_accepted c.n_accepted) refl e
   where
-    go : (o : Order) → compare_of a.n_accepted c.n_accepted ≡ o → by_order o (ltb c.accepted_idx a.accepted_idx) ≡ false → Within a.n_accepted a.accepted_idx c.n_accepted c.accepted_idx
+    go : (o : Ordering) → compare_of a.n_accepted c.n_accepted ≡ o → by_order o (ltb c.accepted_idx a.accepted_idx) ≡ false → Within a.n_accepted a.accepted_idx c.n_accepted c.accepted_idx
     go Greater p q = absurd (not-both refl q)
     go Equal p q = level (equal_is a.n_accepted c.n_accepted p) (ltb-false c.accepted_idx a.accepted_idx q)
     go Less p q = lower (record { is = less-above a.n_accepted c.n_accepted p })

@@ -1,4 +1,5 @@
 -- A Prepare: the promise is raised, cached and told.
+use Rattle.std.specs.Prelude.{Option, None}
 use Prim.Native.Nat.{ℕ, ◌-◌, ◌≤◌, ◌<◌}
 use mathlib.Core.Path.{◌≡◌, refl, sym, ap, subst}
 use mathlib.Core.Bool.{Bool, true, false, cond}
@@ -10,11 +11,10 @@ use lib.Seq.{take_all, take-take}
 use borrow.Author.Tests.{ltb-false, le-ltb}
 use Rattle.base.proofs.Tests.{not-both}
 use Rattle.ballot.specs.Ballot.{above, same}
+use Rattle.leader_state.specs.declared.LogSync.{LogSync}
 use Rattle.ballot.specs.declared.Ballot.{Ballot}
 use Rattle.ballot.proofs.Laws.{same-eq, same_refl as same_self}
 use Rattle.quorum.specs.declared.Configuration.{Configuration}
-use Rattle.leader_state.specs.declared.HeldSync.{HeldSync}
-use Rattle.leader_state.specs.declared.HeldSync.TheVariants.{Nothing}
 use Rattle.messages.specs.declared.Prepare.{Prepare}
 use Rattle.messages.specs.declared.PaxosMsg.{PaxosMsg}
 use Rattle.messages.specs.declared.PaxosMsg.TheVariants as msg
@@ -57,14 +57,14 @@ module _ (conf : Configuration) (q : ℕ) (sight : Sight) (es : List ℕ) (v : V
 
   module _ (m : Prepare) (sender : ℕ) (u : Upto v.node.internal_storage.promise m.n) (ask : Asks z g m.n m.n_accepted m.accepted_idx m.decided_idx) where
     -- the promise has been raised and cached
-    abbrev y : HeldSync → SequencePaxos
+    abbrev y : Option LogSync → SequencePaxos
     y x = cache_promise x (promise_to m.n s)
 
     -- with a sync from i on
-    abbrev x : ℕ → HeldSync
+    abbrev x : ℕ → Option LogSync
     x i = log_from i s
 
-    abbrev promise_msg : HeldSync → PaxosMsg
+    abbrev promise_msg : Option LogSync → PaxosMsg
     promise_msg k = msg.Promise (record { n = m.n; n_accepted = r; decided_idx = v.node.internal_storage.decided_idx; accepted_idx = v.node.internal_storage.accepted_idx; log_sync = start_of k })
 
     kept : ℕ → List ℕ
@@ -78,7 +78,7 @@ module _ (conf : Configuration) (q : ℕ) (sight : Sight) (es : List ℕ) (v : V
     unfolding cache_promise promise_to kept perform_all
     face-held i = ap (λ (f : Face). promised_to m.n (x i) (take (suffix_length (log_length s) i) (take (suffix_length (log_length s) i) (drop i (v.log ++ [])))) f) (face-found conf q sight es v cnt)
 
-    ready-y : (k : HeldSync) → Ready 0 es v (y k)
+    ready-y : (k : Option LogSync) → Ready 0 es v (y k)
     unfolding cache_promise promise_to perform_all
     ready-y k = let o : Ready 0 es v s = found-ready conf q sight es v cnt in record { things = o.things; room = o.room; queue = o.queue }
 
@@ -93,20 +93,20 @@ module _ (conf : Configuration) (q : ℕ) (sight : Sight) (es : List ℕ) (v : V
         done : Next z P b c g (mid_face es v (y (x i)))
         done = subst (Next z P b c g) (sym (face-held i)) (t-promised w (x i) (kept i) u ask (λ l. rw (kept-is i h, hi l)) (λ e l. rw (kept-is i h, lo e l)))
 
-    face-none : mid_face es v (y Nothing) ≡ promised_to m.n Nothing [] (face_of v)
+    face-none : mid_face es v (y None) ≡ promised_to m.n None [] (face_of v)
     unfolding cache_promise promise_to perform_all
-    face-none = ap (promised_to m.n Nothing []) (face-found conf q sight es v cnt)
+    face-none = ap (promised_to m.n None []) (face-found conf q sight es v cnt)
 
     told_none : (Below m.n_accepted r → ⊥) → (m.n_accepted ≡ r → m.accepted_idx < length v.log → ⊥)
-        → Next z P b c g (mid_face es v (send_promise sender (promise_of Nothing (promise_to m.n s)) (log_source Nothing) (y Nothing)))
+        → Next z P b c g (mid_face es v (send_promise sender (promise_of None (promise_to m.n s)) (log_source None) (y None)))
     unfolding cache_promise promise_to
     told_none hi lo =
-        next-plain es v sender (promise_msg Nothing) source.Nothing 0 (y Nothing) (ready-y Nothing) (omega arith) done (λ t e. done.well.node.cached) (λ j. refl)
+        next-plain es v sender (promise_msg None) source.Nothing 0 (y None) (ready-y None) (omega arith) done (λ t e. done.well.node.cached) (λ j. refl)
       where
-        done : Next z P b c g (mid_face es v (y Nothing))
-        done = subst (Next z P b c g) (sym face-none) (t-promised w Nothing [] u ask (λ l. absurd (hi l)) (λ e l. absurd (lo e l)))
+        done : Next z P b c g (mid_face es v (y None))
+        done = subst (Next z P b c g) (sym face-none) (t-promised w None [] u ask (λ l. absurd (hi l)) (λ e l. absurd (lo e l)))
 
-    abbrev Told : HeldSync → Type 0
+    abbrev Told : Option LogSync → Type 0
     Told k = Clean (tell_promise sender k (promise_to m.n s)) → Next z P b c g (mid_face es v (tell_promise sender k (promise_to m.n s)))
 
     -- a sync from past the log's end is unfit
@@ -119,7 +119,7 @@ module _ (conf : Configuration) (q : ℕ) (sight : Sight) (es : List ℕ) (v : V
         (λ e _. told-held i (omega (arith, ltb-false (log_length s) i e, cnt.log)) hi lo)
 
     -- none
-    tells_none : (Below m.n_accepted r → ⊥) → (m.n_accepted ≡ r → m.accepted_idx < length v.log → ⊥) → Told Nothing
+    tells_none : (Below m.n_accepted r → ⊥) → (m.n_accepted ≡ r → m.accepted_idx < length v.log → ⊥) → Told None
     unfolding tell_promise
     tells_none hi lo k = told_none hi lo
 
@@ -127,15 +127,15 @@ module _ (conf : Configuration) (q : ℕ) (sight : Sight) (es : List ℕ) (v : V
     unfolding prepare_taken promised_sync
     prepared = higher (above r m.n_accepted) refl
       where
-        longer : above r m.n_accepted ≡ false → (t : Bool) → ltb m.accepted_idx (log_length s) ≡ t → Told (cond t (log_from m.accepted_idx s) Nothing)
+        longer : above r m.n_accepted ≡ false → (t : Bool) → ltb m.accepted_idx (log_length s) ≡ t → Told (cond t (log_from m.accepted_idx s) None)
         longer ne true e = tells m.accepted_idx (λ l. absurd (not-both l.is ne)) (λ _ _. refl)
         longer ne false e = tells_none (λ l. not-both l.is ne) (λ _ l. omega (arith, ltb-false m.accepted_idx (log_length s) e, cnt.log))
 
-        level : above r m.n_accepted ≡ false → (t : Bool) → same r m.n_accepted ≡ t → Told (cond t (cond (ltb m.accepted_idx (log_length s)) (log_from m.accepted_idx s) Nothing) Nothing)
+        level : above r m.n_accepted ≡ false → (t : Bool) → same r m.n_accepted ≡ t → Told (cond t (cond (ltb m.accepted_idx (log_length s)) (log_from m.accepted_idx s) None) None)
         level ne true e = longer ne (ltb m.accepted_idx (log_length s)) refl
         level ne false e = tells_none (λ l. not-both l.is ne) (λ q _. not-both (subst (λ k. same r k ≡ true) (sym q) (same_self r)) e)
 
-        higher : (t : Bool) → above r m.n_accepted ≡ t → Told (cond t (log_from m.decided_idx s) (cond (same r m.n_accepted) (cond (ltb m.accepted_idx (log_length s)) (log_from m.accepted_idx s) Nothing) Nothing))
+        higher : (t : Bool) → above r m.n_accepted ≡ t → Told (cond t (log_from m.decided_idx s) (cond (same r m.n_accepted) (cond (ltb m.accepted_idx (log_length s)) (log_from m.accepted_idx s) None) None))
         higher true e = tells m.decided_idx (λ _. refl) (λ q _. absurd (below_apart (record { is = e }) q))
         higher false e = level e (same r m.n_accepted) refl
 

@@ -1,4 +1,5 @@
 -- A Promise at a leader: it is noted; a read quorum starts the ballot; a late one is synced.
+use Rattle.std.specs.Prelude.{Option, None, Some}
 use Prim.Native.Nat.{ℕ, ◌+◌, ◌≤◌, ◌<◌, max}
 use mathlib.Core.Path.{◌≡◌, refl, sym, ap, ◌∙◌, subst}
 use mathlib.Core.Logic.{◌⊎◌, inl, inr, ◌≢◌}
@@ -13,6 +14,7 @@ use Rattle.base.proofs.Tests.{not-both}
 use Rattle.base.specs.Limits.{max_depots}
 use Rattle.base.specs.Count.{count_below}
 use Rattle.ballot.specs.Ballot.{same}
+use Rattle.leader_state.specs.declared.LogSync.{LogSync}
 use Rattle.ballot.specs.declared.Ballot.{Ballot}
 use Rattle.ballot.proofs.Laws.{same-eq}
 use Rattle.quorum.specs.Quorum.{read_size, reaches_read}
@@ -21,8 +23,6 @@ use Rattle.quorum.specs.declared.Configuration.{Configuration}
 use Rattle.leader_state.specs.declared.Depot.{Depot}
 use Rattle.leader_state.specs.declared.LeaderState.{LeaderState}
 use Rattle.leader_state.specs.declared.MaxPromise.{MaxPromise}
-use Rattle.leader_state.specs.declared.HeldSync.{HeldSync}
-use Rattle.leader_state.specs.declared.HeldSync.TheVariants.{Nothing, Held}
 use Rattle.leader_state.specs.declared.PromiseMetaData.{PromiseMetaData}
 use Rattle.leader_state.specs.declared.PromiseState.{PromiseState}
 use Rattle.leader_state.specs.declared.PromiseState.TheVariants.{Promised}
@@ -72,13 +72,13 @@ use Rattle.faces.proofs.Sends.{found-well, ignored}
 
 -- ---- what is put on the log, where nothing is refused
 
-abbrev op_of : Bool → HeldSync → LogOp
-op_of t (Held x) = put_op t x
-op_of t Nothing = Keep
+abbrev op_of : Bool → Option LogSync → LogOp
+op_of t (Some x) = put_op t x
+op_of t None = Keep
 
-abbrev end_of : HeldSync → ℕ → ℕ
-end_of (Held x) len = sync_end x
-end_of Nothing len = len
+abbrev end_of : Option LogSync → ℕ → ℕ
+end_of (Some x) len = sync_end x
+end_of None len = len
 
 syncs-clean : (hi end : ℕ) (op : LogOp) (s : SequencePaxos) → Clean (leader_syncs hi end op s) → (leader_syncs hi end op s ≡ sync_log s.leader_state.n_leader hi end op s) × Clean s
 unfolding sync_log
@@ -88,27 +88,27 @@ syncs-clean hi end op s = go (ltb end hi)
     go true k = absurd (not-both refl k.fit)
     go false k = (refl, record { fit = k.fit; low = k.low })
 
-puts-clean : (h : HeldSync) (t : Bool) (hi : ℕ) (s : SequencePaxos) → Clean (sync_by h t hi s) → (sync_by h t hi s ≡ sync_log s.leader_state.n_leader hi (end_of h (log_length s)) (op_of t h) s) × Clean s
+puts-clean : (h : Option LogSync) (t : Bool) (hi : ℕ) (s : SequencePaxos) → Clean (sync_by h t hi s) → (sync_by h t hi s ≡ sync_log s.leader_state.n_leader hi (end_of h (log_length s)) (op_of t h) s) × Clean s
 unfolding sync_held
-puts-clean Nothing t hi s k = syncs-clean hi (log_length s) Keep s k
-puts-clean (Held x) t hi s k = go (sync_unfit x (change_of t s) s.leader_state.max_promise.meta.decided_idx s) k
+puts-clean None t hi s k = syncs-clean hi (log_length s) Keep s k
+puts-clean (Some x) t hi s k = go (sync_unfit x (change_of t s) s.leader_state.max_promise.meta.decided_idx s) k
   where
     go : (u : Bool) → Clean (cond u (unfit s) (leader_syncs hi (sync_end x) (put_op t x) s)) → (cond u (unfit s) (leader_syncs hi (sync_end x) (put_op t x) s) ≡ sync_log s.leader_state.n_leader hi (sync_end x) (put_op t x) s) × Clean s
     go true k = absurd (not-both refl k.fit)
     go false k = syncs-clean hi (sync_end x) (put_op t x) s k
 
 -- what the operation makes of the log is what the sync does
-put-log : (h : HeldSync) (t : Bool) (es best log : List ℕ) → log_to (op_of t h) es best log ≡ put_on (sync_of h (held_entries h (cond t es best))) log
-put-log Nothing t es best log = refl
-put-log (Held x) true es best log = refl
-put-log (Held x) false es best log = refl
+put-log : (h : Option LogSync) (t : Bool) (es best log : List ℕ) → log_to (op_of t h) es best log ≡ put_on (sync_of h (held_entries h (cond t es best))) log
+put-log None t es best log = refl
+put-log (Some x) true es best log = refl
+put-log (Some x) false es best log = refl
 
-put-end : (h : HeldSync) (l log : List ℕ) → length (held_entries h l) ≡ count_of h → start_of (sync_of h (held_entries h l)) ≤ length log → length (put_on (sync_of h (held_entries h l)) log) ≡ end_of h (length log)
-put-end Nothing l log e c = refl
-put-end (Held x) l log e c = omega (arith, length-append (take x.sync_idx log) (take x.len l), length-take x.sync_idx log, e)
+put-end : (h : Option LogSync) (l log : List ℕ) → length (held_entries h l) ≡ count_of h → start_of (sync_of h (held_entries h l)) ≤ length log → length (put_on (sync_of h (held_entries h l)) log) ≡ end_of h (length log)
+put-end None l log e c = refl
+put-end (Some x) l log e c = omega (arith, length-append (take x.sync_idx log) (take x.len l), length-take x.sync_idx log, e)
 
 module _ (quo : Quorum) (q₀ : ℕ) (sight : Sight) (es : List ℕ) (v : View) (cnt : Counted v) {z : Sizes} {P : ℕ → Type 0} {b : ℕ} {c : Scene} {g : Ghost ℕ} (few : z.depots ≤ max_depots) (bl : b < z.depots) (rs : read_size quo ≡ z.read) (w : Well z P b c g (face_of v))
-    (f : ℕ) (fl : f < z.depots) (m : PromiseMetaData) (pid : m.pid ≡ f + 1) (sync : HeldSync) (full : count_of sync ≤ length es)
+    (f : ℕ) (fl : f < z.depots) (m : PromiseMetaData) (pid : m.pid ≡ f + 1) (sync : Option LogSync) (full : count_of sync ≤ length es)
     (ans : Answer z g v.node.leader_state.n_leader f m.n_accepted m.accepted_idx m.decided_idx (sync_of sync (held_entries sync es))) where
   abbrev conf : Configuration
   conf = record { depots = z.depots; pid = b + 1; quorum = quo }
@@ -169,9 +169,9 @@ module _ (quo : Quorum) (q₀ : ℕ) (sight : Sight) (es : List ℕ) (v : View) 
     waits : Next z P b c g (mid_face es v (keep_sync t sync kept₁))
     waits = stay (subst (Well z P b c g) (sym (by t)) noted)
       where
-        twice : (h : HeldSync) → held_entries h (best_to (held_length h) es v.best) ≡ held_entries h es
-        twice Nothing = refl
-        twice (Held x) = take-take x.len x.len es (omega arith)
+        twice : (h : Option LogSync) → held_entries h (best_to (held_length h) es v.best) ≡ held_entries h es
+        twice None = refl
+        twice (Some x) = take-take x.len x.len es (omega arith)
 
         by : (u : Bool) → mid_face es v (keep_sync u sync (withLeaderBox (with_promise (cond u (record { meta = m; sync = sync }) l.max_promise)) s))
             ≡ face.with_best (held_entries (cond u (record { meta = m; sync = sync }) l.max_promise).sync (cond u es v.best)) (face.with_leader (with_promise (cond u (record { meta = m; sync = sync }) l.max_promise)) (face_of v))
@@ -220,9 +220,9 @@ module _ (quo : Quorum) (q₀ : ℕ) (sight : Sight) (es : List ℕ) (v : View) 
       held-size : length held ≡ count_of best.sync
       held-size = by t
         where
-          fit : (h : HeldSync) (k : List ℕ) → count_of h ≤ length k → length (held_entries h k) ≡ count_of h
-          fit Nothing k e = refl
-          fit (Held x) k e = omega (arith, length-take x.len k, e)
+          fit : (h : Option LogSync) (k : List ℕ) → count_of h ≤ length k → length (held_entries h k) ≡ count_of h
+          fit None k e = refl
+          fit (Some x) k e = omega (arith, length-take x.len k, e)
 
           by : (u : Bool) → length (held_entries (cond u (record { meta = m; sync = sync }) l.max_promise).sync (cond u es v.best)) ≡ count_of (cond u (record { meta = m; sync = sync }) l.max_promise).sync
           by true = fit sync es full
@@ -325,7 +325,7 @@ module _ (quo : Quorum) (q₀ : ℕ) (sight : Sight) (es : List ℕ) (v : View) 
   in-role Follower phase.None e f k = rest
 
 pub h-promise : (quo : Quorum) (q₀ : ℕ) (sight : Sight) (es : List ℕ) (v : View) (cnt : Counted v) {z : Sizes} {P : ℕ → Type 0} {b : ℕ} {c : Scene} {g : Ghost ℕ} (few : z.depots ≤ max_depots) (bl : b < z.depots) (rs : read_size quo ≡ z.read) (w : Well z P b c g (face_of v))
-    (f : ℕ) (fl : f < z.depots) (n : Ballot) (m : PromiseMetaData) (pid : m.pid ≡ f + 1) (sync : HeldSync) (full : count_of sync ≤ length es)
+    (f : ℕ) (fl : f < z.depots) (n : Ballot) (m : PromiseMetaData) (pid : m.pid ≡ f + 1) (sync : Option LogSync) (full : count_of sync ≤ length es)
     (ans : Answer z g n f m.n_accepted m.accepted_idx m.decided_idx (sync_of sync (held_entries sync es)))
     → Clean (handle_promise n m sync (load_of (record { depots = z.depots; pid = b + 1; quorum = quo }) q₀ sight v.node))
     → Next z P b c g (mid_face es v (handle_promise n m sync (load_of (record { depots = z.depots; pid = b + 1; quorum = quo }) q₀ sight v.node)))

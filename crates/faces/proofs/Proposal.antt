@@ -1,4 +1,5 @@
 -- A proposal, local or forwarded; an accepted index; a depot that has promised higher or asks to be prepared; a leader's resend.
+use Rattle.std.specs.Prelude.{None, Some}
 use Prim.Native.Nat.{ℕ, ◌+◌, ◌≤◌, ◌<◌}
 use mathlib.Core.Path.{◌≡◌, refl, sym, ap, ◌∙◌, subst}
 use mathlib.Core.Logic.{◌⊎◌, inl, inr, ◌≢◌}
@@ -22,7 +23,6 @@ use Rattle.leader_state.specs.declared.Depot.{Depot}
 use Rattle.leader_state.specs.declared.LeaderState.{LeaderState}
 use Rattle.leader_state.specs.declared.MaxPromise.{MaxPromise}
 use Rattle.leader_state.specs.declared.PromiseState.TheVariants.{NotPromised, PromisedHigher}
-use Rattle.leader_state.specs.declared.Latest.TheVariants as latest
 use Rattle.leader_state.specs.State.{with_depot, set_promise_state, set_latest, set_accepted}
 use Rattle.leader_state.specs.Places.{chosen, promised_followers, preparable_peers}
 use Rattle.messages.specs.declared.PaxosMsg.TheVariants as msg
@@ -117,9 +117,9 @@ module _ (quo : Quorum) (q₀ : ℕ) (sight : Sight) (es : List ℕ) (v : View) 
     unfolding prepare_again
     again e =
         let l₁ : LeaderState = with_depot (f + 1) (set_promise_state NotPromised) l in
-        let l₂ : LeaderState = with_depot (f + 1) (set_latest latest.Nothing) l₁ in
+        let l₂ : LeaderState = with_depot (f + 1) (set_latest None) l₁ in
         let p₁ : Puts f (set_promise_state NotPromised (place f l)) l l₁ = puts_of f l w.node.row (omega arith) (set_promise_state NotPromised) in
-        let p : Puts f (set_latest latest.Nothing (set_promise_state NotPromised (place f l))) l l₂ = puts_then p₁ (puts-is (ap (set_latest latest.Nothing) p₁.here) (puts_of f l₁ p₁.row (omega arith) (set_latest latest.Nothing))) in
+        let p : Puts f (set_latest None (set_promise_state NotPromised (place f l))) l l₂ = puts_then p₁ (puts-is (ap (set_latest None) p₁.here) (puts_of f l₁ p₁.row (omega arith) (set_latest None))) in
         prepares es v (f + 1) (withLeaderBox l₂ s) (record { things = ready.things; room = ready.room; queue = ready.queue }) (omega arith) e
         (stay (t-less found l₂ e (less-puts p refl (inr refl) (inr refl)) (λ t _. inl (puts-part (λ (d : Depot). d.accepted_idx) p refl t))))
 
@@ -144,7 +144,7 @@ module _ (quo : Quorum) (q₀ : ℕ) (sight : Sight) (es : List ℕ) (v : View) 
       by phase.None = rest
 
   -- ---- proposals
-  module _ (pe : All P es) (sees : (t at : ℕ) → is_leader v.node.state.role ≡ true → t < z.depots → (place t l).latest ≡ latest.At at → get_or sight.accdec t false ≡ true) where
+  module _ (pe : All P es) (sees : (t at : ℕ) → is_leader v.node.state.role ≡ true → t < z.depots → (place t l).latest ≡ Some at → get_or sight.accdec t false ≡ true) where
     buffers : Next z P b c g (mid_face es v (buffer_given (length es) s))
     unfolding buffer_given perform_all
     buffers =
@@ -232,7 +232,7 @@ module _ (quo : Quorum) (q₀ : ℕ) (sight : Sight) (es : List ℕ) (v : View) 
         by Follower phase.None e f q = forwards
 
   -- ---- an accepted index
-  module _ (ws : write_size quo ≡ z.write) (sees : (t at : ℕ) → is_leader v.node.state.role ≡ true → t < z.depots → (place t l).latest ≡ latest.At at → get_or sight.accdec t false ≡ true)
+  module _ (ws : write_size quo ≡ z.write) (sees : (t at : ℕ) → is_leader v.node.state.role ≡ true → t < z.depots → (place t l).latest ≡ Some at → get_or sight.accdec t false ≡ true)
       (n : Ballot) (idx f : ℕ) (fl : f < z.depots) (ok : Reached g f n idx) where
     module _ (en : n ≡ l.n_leader) (st : v.node.state ≡ record { role = Leader; phase = phase.Accept }) where
       abbrev noted : SequencePaxos

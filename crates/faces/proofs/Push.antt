@@ -1,4 +1,5 @@
 -- One thing more in the plan: what it does to the face. And the face of the box as it is found.
+use Rattle.std.specs.Prelude.{Option, None, Some}
 use Prim.Native.Nat.{ℕ, ◌+◌, ◌<◌}
 use mathlib.Core.Path.{◌≡◌, refl, ap, ◌∙◌}
 use mathlib.Core.Bool.{Bool, true, false, cond}
@@ -8,9 +9,8 @@ use lib.Dec.{ltb}
 use lib.ListN.{length, take, length-set}
 use lib.Seq.{take_all}
 use borrow.Author.Tests.{lt-ltb}
+use Rattle.leader_state.specs.declared.LogSync.{LogSync}
 use Rattle.quorum.specs.declared.Configuration.{Configuration}
-use Rattle.leader_state.specs.declared.HeldSync.{HeldSync}
-use Rattle.leader_state.specs.declared.HeldSync.TheVariants as held
 use Rattle.messages.specs.declared.PaxosMsg.{PaxosMsg}
 use Rattle.paxos_box.specs.declared.SequencePaxos.{SequencePaxos}
 use Rattle.paxos_box.specs.declared.Plan.{Plan}
@@ -85,13 +85,13 @@ module _ (es : List ℕ) (v : View) where
 
 -- ---- the box as it is found
 
-pub held_all : (x : HeldSync) (l : List ℕ) → length l ≡ count_of x → held_entries x l ≡ l
-held_all held.Nothing l e = none l e
+pub held_all : (x : Option LogSync) (l : List ℕ) → length l ≡ count_of x → held_entries x l ≡ l
+held_all None l e = none l e
   where
     none : (l : List ℕ) → length l ≡ 0 → [] ≡ l
     none [] e = refl
     none (y ∷ l) e = absurd (omega arith)
-held_all (held.Held x) l e = take_all x.len l (omega arith)
+held_all (Some x) l e = take_all x.len l (omega arith)
 
 module _ (conf : Configuration) (n : ℕ) (sight : Sight) (es : List ℕ) (v : View) (k : Counted v) where
   pub found-ready : Ready 0 es v (load_of conf n sight v.node)

@@ -1,4 +1,5 @@
 -- A follower's resend, a reconnect, a restart and a drain.
+use Rattle.std.specs.Prelude.{Option, None, Some}
 use Prim.Native.Nat.{ℕ, zero, suc, ◌≤◌, ◌<◌}
 use mathlib.Core.Path.{◌≡◌, refl, sym, ap, ◌∙◌, subst}
 use mathlib.Core.Logic.{inl, inr}
@@ -9,20 +10,16 @@ use Rattle.base.specs.Limits.{max_depots}
 use Rattle.base.specs.Lists.{on_first}
 use Rattle.base.proofs.Lists.{length-on-first}
 use Rattle.ballot.specs.Ballot.{default}
+use Rattle.leader_state.specs.declared.LogSync.{LogSync}
 use Rattle.quorum.specs.declared.Configuration.{Configuration}
 use Rattle.leader_state.specs.declared.Depot.{Depot}
 use Rattle.leader_state.specs.declared.LeaderState.{LeaderState}
-use Rattle.leader_state.specs.declared.HeldSync.{HeldSync}
-use Rattle.leader_state.specs.declared.HeldSync.TheVariants as held
-use Rattle.leader_state.specs.declared.Latest.TheVariants as latest
 use Rattle.leader_state.specs.State.{fresh, with_of, forget_all, set_latest}
 use Rattle.messages.specs.declared.Event.TheVariants as event
 use Rattle.messages.specs.declared.PaxosMsg.TheVariants as msg
 use Rattle.paxos_box.specs.declared.SequencePaxos.{SequencePaxos}
 use Rattle.paxos_box.specs.declared.Sight.{Sight}
 use Rattle.paxos_box.specs.declared.CachedPromise.{CachedPromise}
-use Rattle.paxos_box.specs.declared.CachedMessage.{CachedMessage}
-use Rattle.paxos_box.specs.declared.CachedMessage.TheVariants as cached
 use Rattle.paxos_box.specs.declared.Phase.{Phase}
 use Rattle.paxos_box.specs.declared.Phase.TheVariants as phase
 use Rattle.record.specs.Record.{load_of}
@@ -60,16 +57,16 @@ module _ (conf : Configuration) (q₀ : ℕ) (sight : Sight) (es : List ℕ) (v 
   rest = ignored conf q₀ sight es v cnt w
 
   -- the cached promise, once more
-  told : (x : HeldSync) → sync_in (start_of x) (take (count_of x) (source_of (cached_source x) (mid_sources es v s.plan.writes))) ≡ sync_of x (held_entries x v.cached)
-  told held.Nothing = refl
-  told (held.Held x) = refl
+  told : (x : Option LogSync) → sync_in (start_of x) (take (count_of x) (source_of (cached_source x) (mid_sources es v s.plan.writes))) ≡ sync_of x (held_entries x v.cached)
+  told None = refl
+  told (Some x) = refl
 
-  again : (p : CachedPromise) → v.node.cached_promise_message.message ≡ cached.Held p → Next z P b c g (mid_face es v (resend_promise p s))
+  again : (p : CachedPromise) → v.node.cached_promise_message ≡ Some p → Next z P b c g (mid_face es v (resend_promise p s))
   again p e =
       next-plain es v p.n.pid (msg.Promise (record { n = p.n; n_accepted = p.n_accepted; decided_idx = p.decided_idx; accepted_idx = p.accepted_idx; log_sync = start_of p.sync })) (cached_source p.sync) (count_of p.sync) s ready (omega arith) rest
       (λ t k. subst (λ j. Answer z rest.ghost p.n b p.n_accepted p.accepted_idx p.decided_idx j) (sym (told p.sync)) ok) (λ j. refl)
     where
-      ok : CachedOk z rest.ghost b (cached.Held p) (held_entries p.sync v.cached)
+      ok : CachedOk z rest.ghost b (Some p) (held_entries p.sync v.cached)
       ok = subst (λ k. CachedOk z rest.ghost b k (held_entries (heldIn k) v.cached)) e rest.well.node.cached
 
   asks-all : Next z P b c g (mid_face es v (prepare_reqs s))
@@ -82,12 +79,12 @@ module _ (conf : Configuration) (q₀ : ℕ) (sight : Sight) (es : List ℕ) (v 
   unfolding resend_messages_follower
   h-resend-follower = by v.node.state.phase
     where
-      cache : (k : CachedMessage) → v.node.cached_promise_message.message ≡ k → Next z P b c g (mid_face es v (resend_cached k s))
-      cache cached.Nothing e = asks-anew
-      cache (cached.Held p) e = again p e
+      cache : (k : Option CachedPromise) → v.node.cached_promise_message ≡ k → Next z P b c g (mid_face es v (resend_cached k s))
+      cache None e = asks-anew
+      cache (Some p) e = again p e
 
       by : (p : Phase) → Next z P b c g (mid_face es v (resend_in p s))
-      by phase.Prepare = cache v.node.cached_promise_message.message refl
+      by phase.Prepare = cache v.node.cached_promise_message refl
       by phase.Recover = asks-all
       by phase.Accept = rest
       by phase.None = rest
@@ -110,7 +107,7 @@ unfolding perform_view drained new_log new_buffered cached_list new_cached new_b
 face-drained conf q₀ sight v cnt = ap (λ (x : Face). emptied (face.with_leader (forget_all conf.depots v.node.leader_state) x)) (face-found conf q₀ sight [] v cnt)
 
 -- what was remembered for each depot is forgotten
-forgot-place : (k t : ℕ) (l : List Depot) → t < k → get_or (on_first k (set_latest latest.Nothing) l) t fresh ≡ set_latest latest.Nothing (get_or l t fresh)
+forgot-place : (k t : ℕ) (l : List Depot) → t < k → get_or (on_first k (set_latest None) l) t fresh ≡ set_latest None (get_or l t fresh)
 unfolding on_first
 forgot-place zero t l h = absurd (omega arith)
 forgot-place (suc k) t [] h = refl
@@ -121,7 +118,7 @@ pub forgets : (z : Sizes) (l : LeaderState) → length l.depots ≡ max_depots �
 unfolding forget_all
 forgets z l e =
     record {
-      row = length-on-first z.depots (set_latest latest.Nothing) l.depots ∙ e;
+      row = length-on-first z.depots (set_latest None) l.depots ∙ e;
       ballot = refl;
       best = refl;
       number = λ t u. ap (λ (d : Depot). d.seq_num) (forgot-place z.depots t l.depots u);
@@ -129,6 +126,6 @@ forgets z l e =
       latest = λ t u. inr (ap (λ (d : Depot). d.latest) (forgot-place z.depots t l.depots u));
     }
 
-pub forgot : (k t : ℕ) (l : LeaderState) → t < k → place t (forget_all k l) ≡ set_latest latest.Nothing (place t l)
+pub forgot : (k t : ℕ) (l : LeaderState) → t < k → place t (forget_all k l) ≡ set_latest None (place t l)
 unfolding forget_all
 forgot k t l u = forgot-place k t l.depots u

@@ -1,4 +1,5 @@
 -- What is sent without a number: requests, refusals, Prepares and forwards.
+use Rattle.std.specs.Prelude.{None}
 use Prim.Native.Nat.{ℕ, zero, suc, ◌+◌, ◌≤◌, ◌<◌}
 use mathlib.Core.Path.{◌≡◌, refl, sym, subst}
 use mathlib.Core.Bool.{Bool, true, false}
@@ -13,7 +14,6 @@ use Rattle.messages.specs.declared.PaxosMsg.TheVariants as msg
 use Rattle.paxos_box.specs.declared.SequencePaxos.{SequencePaxos}
 use Rattle.paxos_box.specs.declared.Source.{Source}
 use Rattle.paxos_box.specs.declared.Source.TheVariants as source
-use Rattle.paxos_box.specs.declared.BufferOp.TheVariants as buffer
 use Rattle.paxos_box.specs.Box.{push_of, is_leader, set_buffered}
 use Rattle.sends.specs.declared.Each.TheVariants as each
 use Rattle.sends.specs.Sends.{send_new, send_prepare, send_prepare_req, turn_of, for_marked}
@@ -115,7 +115,7 @@ module _ (es : List ℕ) (v : View) {z : Sizes} {P : ℕ → Type 0} {b : ℕ} {
   each-request marked (suc i) s h t = request-step marked i s (omega arith) (each-request marked i s (omega arith) t)
 
   -- ---- buffered proposals are forwarded
-  pub forwards : {k : ℕ} (s : SequencePaxos) → Ready k es v s → k < 8 → s.plan.writes.buffer ≡ buffer.Keep → All P v.buffered → Next z P b c g (mid_face es v s)
+  pub forwards : {k : ℕ} (s : SequencePaxos) → Ready k es v s → k < 8 → s.plan.writes.buffer ≡ None → All P v.buffered → Next z P b c g (mid_face es v s)
       → Next z P b c g (mid_face es v (push_forward source.Buffered s.buffered_proposals (set_buffered 0 s)))
   forwards s r h e a n =
       next-plain s.internal_storage.promise.pid msg.ProposalForward source.Buffered s.buffered_proposals (set_buffered 0 s) (record { things = r.things; room = r.room; queue = r.queue }) h empty

@@ -1,4 +1,5 @@
 -- Every event that a depot takes, but a drain and a restart: all is well after it.
+use Rattle.std.specs.Prelude.{Option, None, Some}
 use Prim.Native.Nat.{ℕ, ◌+◌, ◌≤◌, ◌<◌}
 use mathlib.Core.Path.{◌≡◌, refl, sym, ap, ◌∙◌, subst}
 use mathlib.Core.Logic.{◌≢◌}
@@ -16,16 +17,12 @@ use Rattle.ballot.proofs.Laws.{same_refl as same_self}
 use Rattle.quorum.specs.Quorum.{read_size, write_size}
 use Rattle.quorum.specs.declared.Quorum.{Quorum}
 use Rattle.quorum.specs.declared.Configuration.{Configuration}
-use Rattle.leader_state.specs.declared.Latest.{Latest}
-use Rattle.leader_state.specs.declared.Latest.TheVariants as latest
 use Rattle.leader_state.specs.declared.Depot.{Depot}
 use Rattle.leader_state.specs.State.{depot_of}
 use Rattle.messages.specs.declared.Event.{Event}
 use Rattle.messages.specs.declared.Event.TheVariants as event
 use Rattle.messages.specs.declared.PaxosMsg.{PaxosMsg}
 use Rattle.messages.specs.declared.PaxosMsg.TheVariants as msg
-use Rattle.messages.specs.declared.PromiseSync.{PromiseSync}
-use Rattle.messages.specs.declared.PromiseSync.TheVariants as sync
 use Rattle.messages.specs.Messages.{is_accept_decide}
 use Rattle.paxos_box.specs.declared.SequencePaxos.{SequencePaxos}
 use Rattle.paxos_box.specs.declared.Role.{Role}
@@ -67,13 +64,13 @@ clean_of s e =
     record { fit = a.0; low = c.0 }
 
 -- the sync that a Promise brings, with its entries
-brought-full : (x : PromiseSync) (es : List ℕ) → count_of (brought_by x (length es)) ≤ length es
-brought-full sync.Nothing es = omega arith
-brought-full (sync.From i) es = omega arith
+brought-full : (x : Option ℕ) (es : List ℕ) → count_of (brought_by x (length es)) ≤ length es
+brought-full None es = omega arith
+brought-full (Some i) es = omega arith
 
-brought-is : (x : PromiseSync) (es : List ℕ) → sync_of (brought_by x (length es)) (held_entries (brought_by x (length es)) es) ≡ sync_in x es
-brought-is sync.Nothing es = refl
-brought-is (sync.From i) es = ap (from i) (take_all (length es) es (omega arith))
+brought-is : (x : Option ℕ) (es : List ℕ) → sync_of (brought_by x (length es)) (held_entries (brought_by x (length es)) es) ≡ sync_in x es
+brought-is None es = refl
+brought-is (Some i) es = ap (from i) (take_all (length es) es (omega arith))
 
 module _ (quo : Quorum) (e : Event) (es : List ℕ) (v : View) (cnt : Counted v) {z : Sizes} {P : ℕ → Type 0} {b : ℕ} {c : Scene} {g : Ghost ℕ} (few : z.depots ≤ max_depots) (bl : b < z.depots) (rs : read_size quo ≡ z.read) (ws : write_size quo ≡ z.write)
     (w : Well z P b c g (face_of v)) where
@@ -81,15 +78,15 @@ module _ (quo : Quorum) (e : Event) (es : List ℕ) (v : View) (cnt : Counted v)
   conf = record { depots = z.depots; pid = b + 1; quorum = quo }
 
   -- what a leader remembers is seen
-  sees : (t at : ℕ) → is_leader v.node.state.role ≡ true → t < z.depots → (place t v.node.leader_state).latest ≡ latest.At at → get_or (sight_view conf e es v).accdec t false ≡ true
+  sees : (t at : ℕ) → is_leader v.node.state.role ≡ true → t < z.depots → (place t v.node.leader_state).latest ≡ Some at → get_or (sight_view conf e es v).accdec t false ≡ true
   unfolding sight_view
   sees t at l u q =
       get_d_tabulate max_depots _ t false (omega arith)
       ∙ ap (λ x. cond x (accdec_there v.queue (depot_of (t + 1) v.node.leader_state).latest) false) (lt-ltb t z.depots u)
-      ∙ ap (λ (x : Latest). accdec_there v.queue x) (ap (λ (d : Depot). d.latest) (pid-place t v.node.leader_state) ∙ q)
+      ∙ ap (λ (x : Option ℕ). accdec_there v.queue x) (ap (λ (d : Depot). d.latest) (pid-place t v.node.leader_state) ∙ q)
       ∙ there ((w.node.remembers l t u).stands at q)
     where
-      there : Standing v.node.leader_state.n_leader t (place t v.node.leader_state) at v.queue → accdec_there v.queue (latest.At at) ≡ true
+      there : Standing v.node.leader_state.n_leader t (place t v.node.leader_state) at v.queue → accdec_there v.queue (Some at) ≡ true
       there s = ap (λ x. x && is_accept_decide (msg_at v.queue at)) (lt-ltb at (length v.queue) s.there.below) ∙ ap (λ (m : Msg). is_accept_decide m.msg) s.there.is
 
   abbrev Goal : SequencePaxos → Type 0

@@ -17,10 +17,10 @@ face_of v =
       seq = v.node.current_seq_num;
       leader = v.node.leader_state;
       best = v.best;
-      message = v.node.cached_promise_message.message;
+      message = v.node.cached_promise_message;
       cached = v.cached;
       buffered = v.buffered;
-      meta = v.node.latest_accepted_meta.meta;
+      meta = v.node.latest_accepted_meta;
       queue = v.queue;
     }
 
@@ -43,10 +43,10 @@ mid_face es v s =
       seq = s.current_seq_num;
       leader = s.leader_state;
       best = held_entries s.leader_state.max_promise.sync (best_to s.plan.writes.best es v.best);
-      message = s.cached_promise_message.message;
-      cached = held_entries (sync_in s.cached_promise_message.message) (mid_cached es v s.plan.writes);
+      message = s.cached_promise_message;
+      cached = held_entries (sync_in s.cached_promise_message) (mid_cached es v s.plan.writes);
       buffered = buffer_to s.plan.writes.buffer s.buffered_proposals es v.buffered;
-      meta = s.latest_accepted_meta.meta;
+      meta = s.latest_accepted_meta;
       queue = perform_all (mid_sources es v s.plan.writes) (items_of s.plan.sends) v.queue;
     }
 

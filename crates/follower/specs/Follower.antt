@@ -1,21 +1,14 @@
 -- What a follower does with a Prepare, and its resend (follower.rs; docs/RULES.md, R8.1 to R8.4 and R8.12). Each definition takes the box last. Most are named like
 -- the function that meets them (handle_prepare: handle_prepare); each contract in src/ cites its own.
-use Rattle.std.specs.Prelude.{ℕ, ◌≤◌, cond, ltb}
+use Rattle.std.specs.Prelude.{ℕ, ◌≤◌, cond, ltb, Option, None, Some}
 use Rattle.ballot.specs.Ballot.{above, same}
+use Rattle.leader_state.specs.declared.LogSync.{LogSync}
 use Rattle.ballot.specs.declared.Ballot.{Ballot}
 use Rattle.sequence.specs.Sequence.{first}
-use Rattle.leader_state.specs.declared.HeldSync.{HeldSync}
-use Rattle.leader_state.specs.declared.HeldSync.TheVariants.{Nothing, Held}
 use Rattle.messages.specs.declared.Prepare.{Prepare}
-use Rattle.messages.specs.declared.PromiseSync.{PromiseSync}
-use Rattle.messages.specs.declared.PromiseSync.TheVariants as sync
 use Rattle.messages.specs.declared.PaxosMsg.TheVariants as msg
 use Rattle.paxos_box.specs.declared.SequencePaxos.{SequencePaxos}
 use Rattle.paxos_box.specs.declared.CachedPromise.{CachedPromise}
-use Rattle.paxos_box.specs.declared.CachedMessage.{CachedMessage}
-use Rattle.paxos_box.specs.declared.CachedMessage.TheVariants as cached
-use Rattle.paxos_box.specs.declared.CachedOp.{CachedOp}
-use Rattle.paxos_box.specs.declared.CachedOp.TheVariants as write
 use Rattle.paxos_box.specs.declared.Source.{Source}
 use Rattle.paxos_box.specs.declared.Source.TheVariants as source
 use Rattle.paxos_box.specs.declared.Role.TheVariants.{Follower}
@@ -28,44 +21,44 @@ use Rattle.reconnect.specs.Reconnect.{recovering}
 
 -- The log sync that a Promise brings (R8.3): with a higher accepted round all from the leader's decided index on; in the same round, with a longer log, all from
 -- the leader's accepted index on; else none
-abbrev pub log_from : ℕ → SequencePaxos → HeldSync
-log_from start s = Held (record { sync_idx = start; len = suffix_length (log_length s) start })
+abbrev pub log_from : ℕ → SequencePaxos → Option LogSync
+log_from start s = Some (record { sync_idx = start; len = suffix_length (log_length s) start })
 
-unfoldable pub promised_sync : Prepare → SequencePaxos → HeldSync
+unfoldable pub promised_sync : Prepare → SequencePaxos → Option LogSync
 promised_sync prep s =
     cond (above s.internal_storage.accepted_round prep.n_accepted) (log_from prep.decided_idx s)
     (cond (same s.internal_storage.accepted_round prep.n_accepted)
-    (cond (ltb prep.accepted_idx (log_length s)) (log_from prep.accepted_idx s) Nothing)
-    Nothing)
+    (cond (ltb prep.accepted_idx (log_length s)) (log_from prep.accepted_idx s) None)
+    None)
 
 -- a sync's start, in a Promise; its entries, from the log or from the cached promise's buffer; and what is kept of them in that buffer
-abbrev pub start_of : HeldSync → PromiseSync
-start_of (Held x) = sync.From x.sync_idx
-start_of Nothing = sync.Nothing
+abbrev pub start_of : Option LogSync → Option ℕ
+start_of (Some x) = Some x.sync_idx
+start_of None = None
 
-abbrev pub count_of : HeldSync → ℕ
-count_of (Held x) = x.len
-count_of Nothing = 0
+abbrev pub count_of : Option LogSync → ℕ
+count_of (Some x) = x.len
+count_of None = 0
 
-abbrev pub log_source : HeldSync → Source
-log_source (Held x) = source.Log x.sync_idx
-log_source Nothing = source.Nothing
+abbrev pub log_source : Option LogSync → Source
+log_source (Some x) = source.Log x.sync_idx
+log_source None = source.Nothing
 
-abbrev pub cached_source : HeldSync → Source
-cached_source (Held x) = source.Cached
-cached_source Nothing = source.Nothing
+abbrev pub cached_source : Option LogSync → Source
+cached_source (Some x) = source.Cached
+cached_source None = source.Nothing
 
-abbrev pub kept_sync : HeldSync → CachedOp
-kept_sync (Held x) = write.FromLog x
-kept_sync Nothing = write.Keep
+abbrev pub kept_sync : Option LogSync → Option LogSync
+kept_sync (Some x) = Some x
+kept_sync None = None
 
 -- a log sync to be built from past the own log's end is unfit (R2.4.26)
-abbrev pub build_fits : HeldSync → SequencePaxos → SequencePaxos
-build_fits (Held x) s = sync_fits x.sync_idx s
-build_fits Nothing s = s
+abbrev pub build_fits : Option LogSync → SequencePaxos → SequencePaxos
+build_fits (Some x) s = sync_fits x.sync_idx s
+build_fits None s = s
 
 -- the promise that is told: what is accepted and decided, with the sync
-abbrev pub promise_of : HeldSync → SequencePaxos → CachedPromise
+abbrev pub promise_of : Option LogSync → SequencePaxos → CachedPromise
 promise_of x s = record { n = s.internal_storage.promise; n_accepted = s.internal_storage.accepted_round; decided_idx = s.internal_storage.decided_idx; accepted_idx = log_length s; sync = x }
 
 abbrev pub send_promise : ℕ → CachedPromise → Source → SequencePaxos → SequencePaxos
@@ -73,10 +66,10 @@ send_promise to p src s =
     send_new to (msg.Promise (record { n = p.n; n_accepted = p.n_accepted; decided_idx = p.decided_idx; accepted_idx = p.accepted_idx; log_sync = start_of p.sync })) src (count_of p.sync) s
 
 -- the promise is cached for a resend, its sync's entries in their buffer, and told
-unfoldable pub cache_promise : HeldSync → SequencePaxos → SequencePaxos
-cache_promise x s = with_writes (cached_op (kept_sync x) s.plan.writes) (set_cached (cached.Held (promise_of x s)) s)
+unfoldable pub cache_promise : Option LogSync → SequencePaxos → SequencePaxos
+cache_promise x s = with_writes (cached_op (kept_sync x) s.plan.writes) (set_cached (Some (promise_of x s)) s)
 
-unfoldable pub tell_promise : ℕ → HeldSync → SequencePaxos → SequencePaxos
+unfoldable pub tell_promise : ℕ → Option LogSync → SequencePaxos → SequencePaxos
 tell_promise from x s = send_promise from (promise_of x s) (log_source x) (cache_promise x (build_fits x s))
 
 -- Prepare is taken on a higher ballot, or an equal one only in Phase::Recover (R8.1). The promise is raised, the state is (Follower, Prepare), the sequence starts anew
@@ -98,17 +91,17 @@ prepare_reqs s = for_marked (peers_of s.config) each.PrepareReq s.config.depots 
 abbrev pub resend_promise : CachedPromise → SequencePaxos → SequencePaxos
 resend_promise p s = send_promise p.n.pid p (cached_source p.sync) s
 
-abbrev pub resend_cached : CachedMessage → SequencePaxos → SequencePaxos
-resend_cached (cached.Held p) s = resend_promise p s
-resend_cached cached.Nothing s = prepare_reqs (recovering s)
+abbrev pub resend_cached : Option CachedPromise → SequencePaxos → SequencePaxos
+resend_cached (Some p) s = resend_promise p s
+resend_cached None s = prepare_reqs (recovering s)
 
 -- the cached promise's sync has few entries: an unbroken record's has 512 at most
-abbrev pub few_cached : CachedMessage → Type 0
-few_cached (cached.Held p) = count_of p.sync ≤ 1024
-few_cached cached.Nothing = Unit {0}
+abbrev pub few_cached : Option CachedPromise → Type 0
+few_cached (Some p) = count_of p.sync ≤ 1024
+few_cached None = Unit {0}
 
 abbrev pub resend_in : Phase → SequencePaxos → SequencePaxos
-resend_in phase.Prepare s = resend_cached s.cached_promise_message.message s
+resend_in phase.Prepare s = resend_cached s.cached_promise_message s
 resend_in phase.Recover s = prepare_reqs s
 resend_in phase.Accept s = s
 resend_in phase.None s = s

@@ -6,22 +6,20 @@ ghost use Rattle.paxos_box.specs.Room.{Room};
 ghost use Rattle.follower.specs.Follower.{log_from, promised_sync, start_of, count_of, log_source, cached_source, kept_sync, build_fits, promise_of, send_promise, cache_promise, tell_promise, promise_to, prepare_taken, handle_prepare, prepare_reqs, resend_promise, resend_cached, few_cached, resend_messages_follower};
 
 use ballot::Ballot;
-use leader_state::{HeldSync, LogSync};
-use messages::{PaxosMsg, Prepare, Promise, PromiseSync};
-use paxos_box::{
-    CachedMessage, CachedOp, CachedPromise, Phase, Role, Send, Sent, SequencePaxos, Source,
-};
+use leader_state::LogSync;
+use messages::{PaxosMsg, Prepare, Promise};
+use paxos_box::{CachedPromise, Phase, Role, Send, Sent, SequencePaxos, Source};
 use sends::Each;
 use sequence::SequenceNumber;
 
 // All entries of the log from a place on.
-fn log_from(s: SequencePaxos, start: usize) -> HeldSync
+fn log_from(s: SequencePaxos, start: usize) -> Option<LogSync>
     requires { Room s }
     ensures value { result ≡ log_from start s }
     ensures result_bound { count_of result ≤ 1024 }
 {
     let len = sends::suffix_length(s.internal_storage.accepted_idx, start);
-    HeldSync::Held(LogSync {
+    Some(LogSync {
         sync_idx: start,
         len,
     })
@@ -29,7 +27,7 @@ fn log_from(s: SequencePaxos, start: usize) -> HeldSync
 
 // What the leader is missing: after its decided index where the own round is higher, after its accepted index in the same round.
 #[tactic(auto, unfolding(crate::specs::Follower::promised_sync))]
-fn promised_sync(s: SequencePaxos, prep: Prepare) -> HeldSync
+fn promised_sync(s: SequencePaxos, prep: Prepare) -> Option<LogSync>
     requires { Room s }
     ensures value { result ≡ promised_sync prep s }
     ensures result_bound { count_of result ≤ 1024 }
@@ -43,68 +41,68 @@ fn promised_sync(s: SequencePaxos, prep: Prepare) -> HeldSync
         if prep.accepted_idx < t.accepted_idx {
             return log_from(s, prep.accepted_idx);
         }
-        return HeldSync::Nothing;
+        return None;
     }
-    HeldSync::Nothing
+    None
 }
 
-fn start_of(sync: HeldSync) -> PromiseSync
+fn start_of(sync: Option<LogSync>) -> Option<usize>
     ensures { result ≡ start_of sync }
 {
     match sync {
-        HeldSync::Held(x) => PromiseSync::From(x.sync_idx),
-        HeldSync::Nothing => PromiseSync::Nothing,
+        Some(x) => Some(x.sync_idx),
+        None => None,
     }
 }
 
-fn count_of(sync: HeldSync) -> usize
+fn count_of(sync: Option<LogSync>) -> usize
     ensures { result ≡ count_of sync }
 {
     match sync {
-        HeldSync::Held(x) => x.len,
-        HeldSync::Nothing => 0,
+        Some(x) => x.len,
+        None => 0,
     }
 }
 
-fn log_source(sync: HeldSync) -> Source
+fn log_source(sync: Option<LogSync>) -> Source
     ensures { result ≡ log_source sync }
 {
     match sync {
-        HeldSync::Held(x) => Source::Log(x.sync_idx),
-        HeldSync::Nothing => Source::Nothing,
+        Some(x) => Source::Log(x.sync_idx),
+        None => Source::Nothing,
     }
 }
 
-fn cached_source(sync: HeldSync) -> Source
+fn cached_source(sync: Option<LogSync>) -> Source
     ensures { result ≡ cached_source sync }
 {
     match sync {
-        HeldSync::Held(_) => Source::Cached,
-        HeldSync::Nothing => Source::Nothing,
+        Some(_) => Source::Cached,
+        None => Source::Nothing,
     }
 }
 
-fn kept_sync(sync: HeldSync) -> CachedOp
+fn kept_sync(sync: Option<LogSync>) -> Option<LogSync>
     ensures { result ≡ kept_sync sync }
 {
     match sync {
-        HeldSync::Held(x) => CachedOp::FromLog(x),
-        HeldSync::Nothing => CachedOp::Keep,
+        Some(x) => Some(x),
+        None => None,
     }
 }
 
-fn build_fits(s: SequencePaxos, sync: HeldSync) -> SequencePaxos
+fn build_fits(s: SequencePaxos, sync: Option<LogSync>) -> SequencePaxos
     requires { Room s }
     ensures value { result ≡ build_fits sync s }
     ensures room { Room result }
 {
     match sync {
-        HeldSync::Held(x) => sends::check_log_sync(s, x.sync_idx),
-        HeldSync::Nothing => s,
+        Some(x) => sends::check_log_sync(s, x.sync_idx),
+        None => s,
     }
 }
 
-fn promise_of(s: SequencePaxos, sync: HeldSync) -> CachedPromise
+fn promise_of(s: SequencePaxos, sync: Option<LogSync>) -> CachedPromise
     ensures { result ≡ promise_of sync s }
 {
     let t = s.internal_storage;
@@ -145,19 +143,19 @@ fn send_promise(s: SequencePaxos, to: u64, p: CachedPromise, source: Source) -> 
 }
 
 #[tactic(auto, unfolding(crate::specs::Follower::cache_promise))]
-fn cache_promise(s: SequencePaxos, sync: HeldSync) -> SequencePaxos
+fn cache_promise(s: SequencePaxos, sync: Option<LogSync>) -> SequencePaxos
     requires { Room s }
     ensures value { result ≡ cache_promise sync s }
     ensures room { Room result }
 {
     let p = s.plan;
     let w = p.writes;
-    let s1 = s.set_cached(CachedMessage::Held(promise_of(s, sync)));
+    let s1 = s.set_cached(Some(promise_of(s, sync)));
     s1.set_writes(w.with_cached(kept_sync(sync)))
 }
 
 #[tactic(auto, unfolding(crate::specs::Follower::tell_promise))]
-fn tell_promise(s: SequencePaxos, from: u64, sync: HeldSync) -> SequencePaxos
+fn tell_promise(s: SequencePaxos, from: u64, sync: Option<LogSync>) -> SequencePaxos
     requires room { Room s }
     requires sync_bound { count_of sync ≤ 1024 }
     ensures value { result ≡ tell_promise from sync s }
@@ -222,15 +220,15 @@ fn send_preparereq_to_all_peers(s: SequencePaxos) -> SequencePaxos
 }
 
 // The cached promise, where its sync has few entries: an unbroken record's has 512 at most.
-fn resend_cached(s: SequencePaxos, message: CachedMessage) -> SequencePaxos
+fn resend_cached(s: SequencePaxos, message: Option<CachedPromise>) -> SequencePaxos
     requires room { Room s }
     requires few_cached { few_cached message }
     ensures value { result ≡ resend_cached message s }
     ensures room_2 { Room result }
 {
     match message {
-        CachedMessage::Held(p) => resend_promise(s, p),
-        CachedMessage::Nothing => send_preparereq_to_all_peers(reconnect::to_recover(s)),
+        Some(p) => resend_promise(s, p),
+        None => send_preparereq_to_all_peers(reconnect::to_recover(s)),
     }
 }
 
@@ -248,14 +246,13 @@ fn resend_promise(s: SequencePaxos, p: CachedPromise) -> SequencePaxos
 #[tactic(auto, unfolding(crate::specs::Follower::resend_messages_follower))]
 pub fn resend_messages_follower(s: SequencePaxos) -> SequencePaxos
     requires room { Room s }
-    requires few_cached { few_cached s.cached_promise_message.message }
+    requires few_cached { few_cached s.cached_promise_message }
     ensures value { result ≡ resend_messages_follower s }
     ensures room_2 { Room result }
 {
     let st = s.state;
     let phase = st.phase;
-    let cached = s.cached_promise_message;
-    let message = cached.message;
+    let message = s.cached_promise_message;
     match phase {
         Phase::Prepare => resend_cached(s, message),
         Phase::Recover => send_preparereq_to_all_peers(s),

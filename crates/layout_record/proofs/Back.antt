@@ -1,4 +1,5 @@
 -- Reading gives back what was written.
+use Rattle.std.specs.Prelude.{Option}
 use Prim.Native.Nat.{ℕ, suc, ◌+◌, ◌<◌}
 use mathlib.Core.Path.{◌≡◌, refl, ap, ◌∙◌}
 use mathlib.Core.Bool.{false}
@@ -7,14 +8,12 @@ use native.Mathlib.Omega.{arith}
 use lib.ListN.{length, get_or}
 use Rattle.base.specs.Limits.{max_depots}
 use Rattle.hire_book.proofs.Below.{none}
+use Rattle.paxos_box.specs.declared.AcceptedAt.{AcceptedAt}
+use Rattle.paxos_box.specs.declared.CachedPromise.{CachedPromise}
 use Rattle.ballot.specs.declared.Ballot.{Ballot}
 use Rattle.leader_state.specs.State.{fresh}
 use Rattle.leader_state.specs.declared.Depot.{Depot}
 use Rattle.leader_state.specs.declared.MaxPromise.{MaxPromise}
-use Rattle.paxos_box.specs.declared.AcceptedMeta.{AcceptedMeta}
-use Rattle.paxos_box.specs.declared.CachedMessage.{CachedMessage}
-use Rattle.paxos_box.specs.declared.LatestAccepted.{LatestAccepted}
-use Rattle.paxos_box.specs.declared.Cached.{Cached}
 use Rattle.leader_state.specs.declared.LeaderState.{LeaderState}
 use Rattle.record.specs.declared.Record.{Record}
 use Rattle.tags.specs.Tags.{promise_meta, accepted_at, cached_promise}
@@ -31,13 +30,13 @@ use Rattle.layout_record.proofs.Fits.{block-fits}
 
 -- each block
 
-lead-back : (n : Ballot) (m : AcceptedMeta) → NarrowLead n m → accepted_in (lead_words n m) ≡ record { meta = m }
+lead-back : (n : Ballot) (m : Option AcceptedAt) → NarrowLead n m → accepted_in (lead_words n m) ≡ m
 lead-back n m h = rw (ballot-back (accepted_at m).n h.1, accepted-back m)
 
 best-back : (b : MaxPromise) → NarrowBest b → best_in (best_words b) ≡ b
 best-back b h = rw (ballot-back b.meta.n_accepted h, held_back b.sync)
 
-message-back : (m : CachedMessage) → NarrowCached m → cached_in (cached_words m) ≡ record { message = m }
+message-back : (m : Option CachedPromise) → NarrowCached m → cached_in (cached_words m) ≡ m
 message-back m h =
     rw (ballot-back (cached_promise m).n h.0, ballot-back (cached_promise m).n_accepted h.1, held_back (cached_promise m).sync, cached-back m)
 
@@ -90,7 +89,7 @@ leader-back r h =
     (places-back r h)
     (ap best_in (at_block r 3 h (omega arith)) ∙ best-back l.max_promise h.best)
 
-with-same : (b b' e e' : List ℕ) (l l' : LeaderState) (a a' : LatestAccepted) (c c' : Cached) → b ≡ b' → e ≡ e' → l ≡ l' → a ≡ a' → c ≡ c' → record_with b e l a c ≡ record_with b' e' l' a' c'
+with-same : (b b' e e' : List ℕ) (l l' : LeaderState) (a a' : Option AcceptedAt) (c c' : Option CachedPromise) → b ≡ b' → e ≡ e' → l ≡ l' → a ≡ a' → c ≡ c' → record_with b e l a c ≡ record_with b' e' l' a' c'
 with-same b b' e e' l l' a a' c c' p q s t u = rw (p, q, s, t, u)
 
 -- block 0 with the other parts is the record
@@ -107,8 +106,8 @@ record-back r h =
     (at_block r 0 h (omega arith))
     (at_block r 1 h (omega arith))
     (leader-back r h)
-    (ap accepted_in (at_block r 2 h (omega arith)) ∙ lead-back r.leader_state.n_leader r.latest_accepted_meta.meta h.lead)
-    (ap cached_in (at_block r 4 h (omega arith)) ∙ message-back r.cached_promise_message.message h.cached)
+    (ap accepted_in (at_block r 2 h (omega arith)) ∙ lead-back r.leader_state.n_leader r.latest_accepted_meta h.lead)
+    (ap cached_in (at_block r 4 h (omega arith)) ∙ message-back r.cached_promise_message h.cached)
     ∙ with-back r h.standing
 
 words-mean : (r : Record) → Kept r → no_record (record_words r) ≡ false

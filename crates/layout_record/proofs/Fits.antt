@@ -1,4 +1,5 @@
 -- No word of a machine's record is above its most.
+use Rattle.std.specs.Prelude.{Option, None, Some}
 use Prim.Native.Nat.{ℕ, zero, suc, ◌≤◌, ◌<◌}
 use mathlib.Core.Path.{◌≡◌, refl}
 use mathlib.Core.Bool.{false}
@@ -8,6 +9,9 @@ use lib.Dec.{ltb}
 use lib.ListN.{get_or}
 use borrow.Author.Tests.{le-ltb, ne_eqb}
 use Rattle.hire_book.specs.Below.{any_below}
+use Rattle.paxos_box.specs.declared.AcceptedAt.{AcceptedAt}
+use Rattle.paxos_box.specs.declared.CachedPromise.{CachedPromise}
+use Rattle.leader_state.specs.declared.LogSync.{LogSync}
 use Rattle.ballot.specs.declared.Ballot.{Ballot}
 use Rattle.sequence.specs.declared.SequenceNumber.{SequenceNumber}
 use Rattle.leader_state.specs.State.{fresh}
@@ -15,20 +19,12 @@ use Rattle.leader_state.specs.declared.Depot.{Depot}
 use Rattle.leader_state.specs.declared.MaxPromise.{MaxPromise}
 use Rattle.leader_state.specs.declared.PromiseState.{PromiseState}
 use Rattle.leader_state.specs.declared.PromiseState.TheVariants.{NotPromised, Promised, PromisedHigher}
-use Rattle.leader_state.specs.declared.Latest.{Latest}
-use Rattle.leader_state.specs.declared.Latest.TheVariants as latest
-use Rattle.leader_state.specs.declared.HeldSync.{HeldSync}
-use Rattle.leader_state.specs.declared.HeldSync.TheVariants as held
 use Rattle.paxos_box.specs.declared.InternalStorage.{InternalStorage}
 use Rattle.paxos_box.specs.declared.State.{State}
 use Rattle.paxos_box.specs.declared.Role.{Role}
 use Rattle.paxos_box.specs.declared.Role.TheVariants as role
 use Rattle.paxos_box.specs.declared.Phase.{Phase}
 use Rattle.paxos_box.specs.declared.Phase.TheVariants as phase
-use Rattle.paxos_box.specs.declared.AcceptedMeta.{AcceptedMeta}
-use Rattle.paxos_box.specs.declared.AcceptedMeta.TheVariants as meta
-use Rattle.paxos_box.specs.declared.CachedMessage.{CachedMessage}
-use Rattle.paxos_box.specs.declared.CachedMessage.TheVariants as cached
 use Rattle.record.specs.declared.Record.{Record}
 use Rattle.blocks.specs.Blocks.{over_most, above_most, most32}
 use Rattle.tags.specs.Tags.{promise_tag, promise_meta, latest_tag, held_tag, role_tag, phase_tag, accepted_tag, accepted_at, cached_tag, cached_promise}
@@ -45,13 +41,13 @@ promise-low NotPromised = refl
 promise-low (Promised m) = refl
 promise-low PromisedHigher = refl
 
-latest-low : (l : Latest) → ltb 1 (latest_tag l) ≡ false
-latest-low latest.Nothing = refl
-latest-low (latest.At i) = refl
+latest-low : (l : Option ℕ) → ltb 1 (latest_tag l) ≡ false
+latest-low None = refl
+latest-low (Some i) = refl
 
-held_low : (h : HeldSync) → ltb 1 (held_tag h) ≡ false
-held_low held.Nothing = refl
-held_low (held.Held x) = refl
+held_low : (h : Option LogSync) → ltb 1 (held_tag h) ≡ false
+held_low None = refl
+held_low (Some x) = refl
 
 role-low : (r : Role) → ltb 1 (role_tag r) ≡ false
 role-low role.Follower = refl
@@ -63,13 +59,13 @@ phase-low phase.Accept = refl
 phase-low phase.Recover = refl
 phase-low phase.None = refl
 
-accepted-low : (m : AcceptedMeta) → ltb 1 (accepted_tag m) ≡ false
-accepted-low meta.Nothing = refl
-accepted-low (meta.At a) = refl
+accepted-low : (m : Option AcceptedAt) → ltb 1 (accepted_tag m) ≡ false
+accepted-low None = refl
+accepted-low (Some a) = refl
 
-cached-low : (m : CachedMessage) → ltb 1 (cached_tag m) ≡ false
-cached-low cached.Nothing = refl
-cached-low (cached.Held p) = refl
+cached-low : (m : Option CachedPromise) → ltb 1 (cached_tag m) ≡ false
+cached-low None = refl
+cached-low (Some p) = refl
 
 -- each block
 
@@ -78,7 +74,7 @@ unfolding above_most any_below over_most record_most
 standing-fits s state outgoing q buffered h =
     rw (le-ltb most32 s.promise.n h.0.0, le-ltb most32 s.promise.priority h.0.1, le-ltb most32 s.accepted_round.n h.1.0, le-ltb most32 s.accepted_round.priority h.1.1, role-low state.role, phase-low state.phase)
 
-lead-fits : (n : Ballot) (m : AcceptedMeta) → NarrowLead n m → above_most (record_most 2) (lead_words n m) ≡ false
+lead-fits : (n : Ballot) (m : Option AcceptedAt) → NarrowLead n m → above_most (record_most 2) (lead_words n m) ≡ false
 unfolding above_most any_below over_most record_most
 lead-fits n m h =
     rw (le-ltb most32 n.n h.0.0, le-ltb most32 n.priority h.0.1, accepted-low m, le-ltb most32 (accepted_at m).n.n h.1.0, le-ltb most32 (accepted_at m).n.priority h.1.1)
@@ -88,7 +84,7 @@ unfolding above_most any_below over_most record_most
 best-fits b h =
     rw (le-ltb most32 b.meta.n_accepted.n h.0, le-ltb most32 b.meta.n_accepted.priority h.1, held_low b.sync)
 
-cached-fits : (m : CachedMessage) → NarrowCached m → above_most (record_most 4) (cached_words m) ≡ false
+cached-fits : (m : Option CachedPromise) → NarrowCached m → above_most (record_most 4) (cached_words m) ≡ false
 unfolding above_most any_below over_most record_most
 cached-fits m h =
     rw (cached-low m, le-ltb most32 (cached_promise m).n.n h.0.0, le-ltb most32 (cached_promise m).n.priority h.0.1, le-ltb most32 (cached_promise m).n_accepted.n h.1.0, le-ltb most32 (cached_promise m).n_accepted.priority h.1.1, held_low (cached_promise m).sync)
@@ -118,7 +114,7 @@ unfolding record_blocks
 block-fits r zero h l =
     standing-fits r.internal_storage r.state r.outgoing r.current_seq_num r.buffered_proposals.len h.standing
 block-fits r (suc zero) h l = cells_fit r.buffered_proposals.entries
-block-fits r (suc (suc zero)) h l = lead-fits r.leader_state.n_leader r.latest_accepted_meta.meta h.lead
+block-fits r (suc (suc zero)) h l = lead-fits r.leader_state.n_leader r.latest_accepted_meta h.lead
 block-fits r (suc (suc (suc zero))) h l = best-fits r.leader_state.max_promise h.best
-block-fits r (suc (suc (suc (suc zero)))) h l = cached-fits r.cached_promise_message.message h.cached
+block-fits r (suc (suc (suc (suc zero)))) h l = cached-fits r.cached_promise_message h.cached
 block-fits r (suc (suc (suc (suc (suc k))))) h l = place_at r k h (omega arith)

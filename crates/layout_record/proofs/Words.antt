@@ -39,14 +39,14 @@ six a b c d e f w la lb lc ld le lf lw =
     rw (put_two a b w 16 la, put_two (a ++ b) c w 32 t, put_two ((a ++ b) ++ c) d w 48 u, put_two (((a ++ b) ++ c) ++ d) e w 64 v, put_two ((((a ++ b) ++ c) ++ d) ++ e) f w 80 x, put_whole (((((a ++ b) ++ c) ++ d) ++ e) ++ f) w (lw ∙ sym y), append_assoc (((a ++ b) ++ c) ++ d) e f, append_assoc ((a ++ b) ++ c) d (e ++ f), append_assoc (a ++ b) c (d ++ (e ++ f)), append_assoc a b (c ++ (d ++ (e ++ f))))
 
 -- the record's blocks, each over its own
-pub six-blocks : (r : Record) (w : List ℕ) → length r.buffered_proposals.entries ≡ max_buffered → length r.leader_state.depots ≡ max_depots → length w ≡ record_length → put_at places_at (joined (map place_words r.leader_state.depots)) (put_at (4 * block_words) (cached_words r.cached_promise_message.message) (put_at (3 * block_words) (best_words r.leader_state.max_promise) (put_at (2 * block_words) (lead_words r.leader_state.n_leader r.latest_accepted_meta.meta) (put_at (1 * block_words) r.buffered_proposals.entries (put_at (0 * block_words) (standing_words r.internal_storage r.state r.outgoing r.current_seq_num r.buffered_proposals.len) w))))) ≡ record_words r
+pub six-blocks : (r : Record) (w : List ℕ) → length r.buffered_proposals.entries ≡ max_buffered → length r.leader_state.depots ≡ max_depots → length w ≡ record_length → put_at places_at (joined (map place_words r.leader_state.depots)) (put_at (4 * block_words) (cached_words r.cached_promise_message) (put_at (3 * block_words) (best_words r.leader_state.max_promise) (put_at (2 * block_words) (lead_words r.leader_state.n_leader r.latest_accepted_meta) (put_at (1 * block_words) r.buffered_proposals.entries (put_at (0 * block_words) (standing_words r.internal_storage r.state r.outgoing r.current_seq_num r.buffered_proposals.len) w))))) ≡ record_words r
 unfolding record_blocks joined
 six-blocks r w n m h =
     let l = r.leader_state.depots in
     let f : length (joined (map place_words l)) ≡ 112 = length-joined (map place_words l) (whole-mapped place_words (λ d. refl) l) ∙ omega (arith, length-places l m) in
-    six (standing_words r.internal_storage r.state r.outgoing r.current_seq_num r.buffered_proposals.len) r.buffered_proposals.entries (lead_words r.leader_state.n_leader r.latest_accepted_meta.meta) (best_words r.leader_state.max_promise) (cached_words r.cached_promise_message.message) (joined (map place_words l)) w refl n refl refl refl f h
+    six (standing_words r.internal_storage r.state r.outgoing r.current_seq_num r.buffered_proposals.len) r.buffered_proposals.entries (lead_words r.leader_state.n_leader r.latest_accepted_meta) (best_words r.leader_state.max_promise) (cached_words r.cached_promise_message) (joined (map place_words l)) w refl n refl refl refl f h
 
 -- the writes one after another
-pub six-writes : (r : Record) (w w1 w2 w3 w4 w5 w6 sb eb lb bb cb : List ℕ) → length r.buffered_proposals.entries ≡ max_buffered → length r.leader_state.depots ≡ max_depots → length w ≡ record_length → sb ≡ standing_words r.internal_storage r.state r.outgoing r.current_seq_num r.buffered_proposals.len → w1 ≡ put_at (0 * block_words) sb w → eb ≡ r.buffered_proposals.entries → w2 ≡ put_at (1 * block_words) eb w1 → lb ≡ lead_words r.leader_state.n_leader r.latest_accepted_meta.meta → w3 ≡ put_at (2 * block_words) lb w2 → bb ≡ best_words r.leader_state.max_promise → w4 ≡ put_at (3 * block_words) bb w3 → cb ≡ cached_words r.cached_promise_message.message → w5 ≡ put_at (4 * block_words) cb w4 → w6 ≡ put_at places_at (joined (map place_words r.leader_state.depots)) w5 → w6 ≡ record_words r
+pub six-writes : (r : Record) (w w1 w2 w3 w4 w5 w6 sb eb lb bb cb : List ℕ) → length r.buffered_proposals.entries ≡ max_buffered → length r.leader_state.depots ≡ max_depots → length w ≡ record_length → sb ≡ standing_words r.internal_storage r.state r.outgoing r.current_seq_num r.buffered_proposals.len → w1 ≡ put_at (0 * block_words) sb w → eb ≡ r.buffered_proposals.entries → w2 ≡ put_at (1 * block_words) eb w1 → lb ≡ lead_words r.leader_state.n_leader r.latest_accepted_meta → w3 ≡ put_at (2 * block_words) lb w2 → bb ≡ best_words r.leader_state.max_promise → w4 ≡ put_at (3 * block_words) bb w3 → cb ≡ cached_words r.cached_promise_message → w5 ≡ put_at (4 * block_words) cb w4 → w6 ≡ put_at places_at (joined (map place_words r.leader_state.depots)) w5 → w6 ≡ record_words r
 six-writes r w w1 w2 w3 w4 w5 w6 sb eb lb bb cb n m h p1 q1 p2 q2 p3 q3 p4 q4 p5 q5 q6 =
     rw (q6, q5, p5, q4, p4, q3, p3, q2, p2, q1, p1) (six-blocks r w n m h)

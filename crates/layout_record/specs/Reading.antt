@@ -1,5 +1,5 @@
 -- The record that words mean, and when they mean none (docs/LAYOUT.md).
-use Rattle.std.specs.Prelude.{ℕ, ◌+◌, Bool, cond, List, [], ◌∷◌, eqb, replicate}
+use Rattle.std.specs.Prelude.{ℕ, ◌+◌, Bool, cond, List, [], ◌∷◌, eqb, replicate, Option}
 use Rattle.base.specs.Limits.{max_depots}
 use Rattle.base.specs.Lists.{tabulate}
 use Rattle.hire_book.specs.Below.{any_below}
@@ -8,8 +8,8 @@ use Rattle.leader_state.specs.declared.LeaderState.{LeaderState}
 use Rattle.leader_state.specs.declared.MaxPromise.{MaxPromise}
 use Rattle.paxos_box.specs.declared.State.{State}
 use Rattle.paxos_box.specs.declared.InternalStorage.{InternalStorage}
-use Rattle.paxos_box.specs.declared.LatestAccepted.{LatestAccepted}
-use Rattle.paxos_box.specs.declared.Cached.{Cached}
+use Rattle.paxos_box.specs.declared.AcceptedAt.{AcceptedAt}
+use Rattle.paxos_box.specs.declared.CachedPromise.{CachedPromise}
 use Rattle.record.specs.declared.Record.{Record}
 use Rattle.record.specs.Record.{fresh_record}
 use Rattle.ballot.specs.Ballot.{default}
@@ -33,7 +33,7 @@ state_in b = record { role = role_of (word b 8); phase = phase_of (word b 9) }
 
 -- block 2
 
-abbrev pub accepted_in : List ℕ → LatestAccepted
+abbrev pub accepted_in : List ℕ → Option AcceptedAt
 accepted_in b =
     record { meta = accepted_of (word b 3) (record { n = ballot_of (word b 4) (word b 5) (word b 6); at = word b 7 }) }
 
@@ -48,7 +48,7 @@ best_in b =
 
 -- block 4
 
-abbrev pub cached_in : List ℕ → Cached
+abbrev pub cached_in : List ℕ → Option CachedPromise
 cached_in b =
     record {
       message =
@@ -88,7 +88,7 @@ leader_in w =
     }
 
 -- a record of the first block, the buffered proposals' cells and the other parts
-unfoldable pub record_with : List ℕ → List ℕ → LeaderState → LatestAccepted → Cached → Record
+unfoldable pub record_with : List ℕ → List ℕ → LeaderState → Option AcceptedAt → Option CachedPromise → Record
 record_with b cells l a c =
     record {
       internal_storage = storage_in b;

@@ -1,11 +1,11 @@
 -- A record as words: the blocks of docs/LAYOUT.md, in its order.
-use Rattle.std.specs.Prelude.{ℕ, ◌*◌, List, [], ◌∷◌, map}
+use Rattle.std.specs.Prelude.{ℕ, ◌*◌, List, [], ◌∷◌, map, Option}
+use Rattle.paxos_box.specs.declared.AcceptedAt.{AcceptedAt}
+use Rattle.paxos_box.specs.declared.CachedPromise.{CachedPromise}
 use Rattle.ballot.specs.declared.Ballot.{Ballot}
 use Rattle.sequence.specs.declared.SequenceNumber.{SequenceNumber}
 use Rattle.leader_state.specs.declared.Depot.{Depot}
 use Rattle.leader_state.specs.declared.MaxPromise.{MaxPromise}
-use Rattle.paxos_box.specs.declared.AcceptedMeta.{AcceptedMeta}
-use Rattle.paxos_box.specs.declared.CachedMessage.{CachedMessage}
 use Rattle.paxos_box.specs.declared.InternalStorage.{InternalStorage}
 use Rattle.paxos_box.specs.declared.State.{State}
 use Rattle.record.specs.declared.Record.{Record}
@@ -35,7 +35,7 @@ standing_words s state outgoing q buffered =
     ∷ 0 ∷ 0 ∷ []
 
 -- block 2: the leader's ballot and the remembered Accepted
-abbrev pub lead_words : Ballot → AcceptedMeta → List ℕ
+abbrev pub lead_words : Ballot → Option AcceptedAt → List ℕ
 lead_words n meta =
     n.n ∷ n.priority ∷ n.pid
     ∷ accepted_tag meta
@@ -52,7 +52,7 @@ best_words best =
     ∷ 0 ∷ 0 ∷ 0 ∷ 0 ∷ 0 ∷ 0 ∷ 0 ∷ []
 
 -- block 4: the cached promise
-abbrev pub cached_words : CachedMessage → List ℕ
+abbrev pub cached_words : Option CachedPromise → List ℕ
 cached_words m =
     cached_tag m
     ∷ (cached_promise m).n.n ∷ (cached_promise m).n.priority ∷ (cached_promise m).n.pid
@@ -77,9 +77,9 @@ unfoldable pub record_blocks : Record → List (List ℕ)
 record_blocks r =
     standing_words r.internal_storage r.state r.outgoing r.current_seq_num r.buffered_proposals.len
     ∷ r.buffered_proposals.entries
-    ∷ lead_words r.leader_state.n_leader r.latest_accepted_meta.meta
+    ∷ lead_words r.leader_state.n_leader r.latest_accepted_meta
     ∷ best_words r.leader_state.max_promise
-    ∷ cached_words r.cached_promise_message.message
+    ∷ cached_words r.cached_promise_message
     ∷ map place_words r.leader_state.depots
 
 abbrev pub record_words : Record → List ℕ

@@ -10,13 +10,8 @@ ghost use Rattle.layout_record.specs.Kept.{NarrowStanding, NarrowLead, NarrowBes
 ghost use Rattle.layout_record.specs.Reading.{place_in, best_in, cached_in, accepted_in, storage_in, state_in, places_in, leader_in, record_with, record_of, record_most, no_record, broken_record, record_in};
 
 use ballot::Ballot;
-use leader_state::{
-    Depot, HeldSync, Latest, LeaderState, LogSync, MaxPromise, PromiseMetaData, PromiseState,
-};
-use paxos_box::{
-    AcceptedAt, AcceptedMeta, Cached, CachedMessage, CachedPromise, InternalStorage,
-    LatestAccepted, Phase, Role, State,
-};
+use leader_state::{Depot, LeaderState, LogSync, MaxPromise, PromiseMetaData, PromiseState};
+use paxos_box::{AcceptedAt, CachedPromise, InternalStorage, Phase, Role, State};
 use record::{Buffered, Record};
 use sequence::SequenceNumber;
 
@@ -102,7 +97,7 @@ fn best_block(best: MaxPromise) -> [u64; 16]
     ]
 }
 
-fn cached_block(message: CachedMessage) -> [u64; 16]
+fn cached_block(message: Option<CachedPromise>) -> [u64; 16]
     ensures value { result ≡ cached_words message }
     ensures narrow_cached { NarrowCached message }
 {
@@ -134,7 +129,7 @@ fn cached_block(message: CachedMessage) -> [u64; 16]
 }
 
 // The leader's ballot and the remembered Accepted.
-fn lead_block(n_leader: Ballot, meta: AcceptedMeta) -> [u64; 16]
+fn lead_block(n_leader: Ballot, meta: Option<AcceptedAt>) -> [u64; 16]
     ensures value { result ≡ lead_words n_leader meta }
     ensures narrow_lead { NarrowLead n_leader meta }
 {
@@ -251,7 +246,7 @@ fn best_in(b: [u64; 16]) -> MaxPromise
     MaxPromise { meta, sync }
 }
 
-fn cached_in(b: [u64; 16]) -> Cached
+fn cached_in(b: [u64; 16]) -> Option<CachedPromise>
     ensures { result ≡ cached_in b }
 {
     let n = blocks::ballot(b[1], b[2], b[3]);
@@ -268,11 +263,10 @@ fn cached_in(b: [u64; 16]) -> Cached
         accepted_idx: blocks::index(b[8]),
         sync,
     };
-    let message = tags::cached_of(b[0], p);
-    Cached { message }
+    tags::cached_of(b[0], p)
 }
 
-fn accepted_in(b: [u64; 16]) -> LatestAccepted
+fn accepted_in(b: [u64; 16]) -> Option<AcceptedAt>
     ensures { result ≡ accepted_in b }
 {
     let n = blocks::ballot(b[4], b[5], b[6]);
@@ -280,8 +274,7 @@ fn accepted_in(b: [u64; 16]) -> LatestAccepted
         n,
         at: blocks::index(b[7]),
     };
-    let meta = tags::accepted_of(b[3], a);
-    LatestAccepted { meta }
+    tags::accepted_of(b[3], a)
 }
 
 fn storage_in(b: [u64; 16]) -> InternalStorage
@@ -340,8 +333,8 @@ fn record_with(
     b: [u64; 16],
     entries: [u64; 16],
     leader_state: LeaderState,
-    latest_accepted_meta: LatestAccepted,
-    cached_promise_message: Cached,
+    latest_accepted_meta: Option<AcceptedAt>,
+    cached_promise_message: Option<CachedPromise>,
 ) -> Record
     ensures { result ≡ record_with b entries leader_state latest_accepted_meta cached_promise_message }
 {
@@ -484,12 +477,10 @@ pub fn write_record(words: &mut [u64], r: Record)
     );
     blocks::put_block(words, STANDING, standing);
     blocks::put_block(words, BUFFERED, buffered_block(buffered));
-    let a = r.latest_accepted_meta;
-    let meta = a.meta;
+    let meta = r.latest_accepted_meta;
     blocks::put_block(words, LEAD, lead_block(l.n_leader, meta));
     blocks::put_block(words, BEST, best_block(l.max_promise));
-    let c = r.cached_promise_message;
-    let message = c.message;
+    let message = r.cached_promise_message;
     blocks::put_block(words, CACHED, cached_block(message));
     put_places(words, l);
 }

@@ -1,4 +1,5 @@
 -- Reading a head, and a row of them, gives back what was written.
+use Rattle.std.specs.Prelude.{Option, None, Some}
 use Prim.Native.Nat.{ℕ, ◌+◌, ◌*◌, ◌<◌}
 use mathlib.Core.Path.{◌≡◌, refl, ap, ◌∙◌}
 use mathlib.Core.Bool.{false}
@@ -12,8 +13,6 @@ use Rattle.messages.specs.declared.Head.{Head}
 use Rattle.messages.specs.declared.Row.{Row}
 use Rattle.messages.specs.declared.PaxosMsg.{PaxosMsg}
 use Rattle.messages.specs.declared.PaxosMsg.TheVariants.{PrepareReq, Prepare, Promise, AcceptSync, AcceptDecide, Accepted, NotAccepted, Decide, ProposalForward}
-use Rattle.messages.specs.declared.PromiseSync.{PromiseSync}
-use Rattle.messages.specs.declared.PromiseSync.TheVariants.{Nothing, From}
 use Rattle.storage.specs.Storage.{put_at}
 use Rattle.blocks.specs.Blocks.{block_words, block_at, above_most, joined, Narrow}
 use Rattle.blocks.proofs.Blocks.{ballot-back, block-joined, length-joined, put_whole}
@@ -24,9 +23,9 @@ use Rattle.layout_row.specs.Fields.{sync_tag, sync_at, sync_of, fields_of, messa
 use Rattle.layout_row.specs.Row.{row_length, block_of, head_words, row_blocks, row_words, NarrowHead, KeptRow, zero_head, head_in, head_most, no_row, row_in}
 use Rattle.layout_row.proofs.Fits.{kind-low, sync-low, head-fits}
 
-sync-back : (s : PromiseSync) → sync_of (sync_tag s) (sync_at s) ≡ s
-sync-back Nothing = refl
-sync-back (From start) = refl
+sync-back : (s : Option ℕ) → sync_of (sync_tag s) (sync_at s) ≡ s
+sync-back None = refl
+sync-back (Some start) = refl
 
 pub message-back : (m : PaxosMsg) → message_of (fields_of m) ≡ m
 unfolding message_of

@@ -1,4 +1,5 @@
 -- No word of a machine's head or event is above its most.
+use Rattle.std.specs.Prelude.{Option, None, Some}
 use Prim.Native.Nat.{ℕ}
 use mathlib.Core.Path.{◌≡◌, refl}
 use mathlib.Core.Bool.{false}
@@ -7,8 +8,6 @@ use borrow.Author.Tests.{le-ltb}
 use Rattle.hire_book.specs.Below.{any_below}
 use Rattle.messages.specs.declared.PaxosMsg.{PaxosMsg}
 use Rattle.messages.specs.declared.PaxosMsg.TheVariants.{PrepareReq, Prepare, Promise, AcceptSync, AcceptDecide, Accepted, NotAccepted, Decide, ProposalForward}
-use Rattle.messages.specs.declared.PromiseSync.{PromiseSync}
-use Rattle.messages.specs.declared.PromiseSync.TheVariants.{Nothing, From}
 use Rattle.blocks.specs.Blocks.{over_most, above_most, most32, Narrow}
 use Rattle.layout_row.specs.declared.Fields.{Fields}
 use Rattle.layout_row.specs.Fields.{sync_tag, fields_of}
@@ -26,9 +25,9 @@ kind-low (NotAccepted m) = refl
 kind-low (Decide m) = refl
 kind-low ProposalForward = refl
 
-tag-low : (s : PromiseSync) → ltb 1 (sync_tag s) ≡ false
-tag-low Nothing = refl
-tag-low (From start) = refl
+tag-low : (s : Option ℕ) → ltb 1 (sync_tag s) ≡ false
+tag-low None = refl
+tag-low (Some start) = refl
 
 pub sync-low : (m : PaxosMsg) → ltb 1 (fields_of m).with_sync ≡ false
 sync-low (PrepareReq m) = refl

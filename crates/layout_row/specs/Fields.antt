@@ -1,5 +1,5 @@
 -- A message as its kind and every field that some kind has, and the message that such fields mean.
-use Rattle.std.specs.Prelude.{ℕ, cond, List, eqb}
+use Rattle.std.specs.Prelude.{ℕ, cond, List, eqb, Option, None, Some}
 use Rattle.ballot.specs.Ballot.{default}
 use Rattle.ballot.specs.declared.Ballot.{Ballot}
 use Rattle.sequence.specs.Sequence.{first}
@@ -7,18 +7,16 @@ use Rattle.sequence.specs.declared.SequenceNumber.{SequenceNumber}
 use Rattle.messages.specs.declared.PaxosMsg.{PaxosMsg}
 use Rattle.messages.specs.declared.PaxosMsg.TheVariants.{PrepareReq, Prepare, Promise, AcceptSync, AcceptDecide, Accepted, NotAccepted, Decide, ProposalForward}
 use Rattle.messages.specs.declared.Promise as promise
-use Rattle.messages.specs.declared.PromiseSync.{PromiseSync}
-use Rattle.messages.specs.declared.PromiseSync.TheVariants.{Nothing, From}
 use Rattle.blocks.specs.Blocks.{word, ballot_of}
 use Rattle.layout_row.specs.declared.Fields.{Fields}
 
-abbrev pub sync_tag : PromiseSync → ℕ
-sync_tag Nothing = 0
-sync_tag (From start) = 1
+abbrev pub sync_tag : Option ℕ → ℕ
+sync_tag None = 0
+sync_tag (Some start) = 1
 
-abbrev pub sync_at : PromiseSync → ℕ
-sync_at Nothing = 0
-sync_at (From start) = start
+abbrev pub sync_at : Option ℕ → ℕ
+sync_at None = 0
+sync_at (Some start) = start
 
 abbrev pub fields_as : ℕ → Ballot → Ballot → SequenceNumber → ℕ → ℕ → ℕ → ℕ → Fields
 fields_as kind n accepted s decided length tag start =
@@ -39,8 +37,8 @@ fields_of (NotAccepted m) = fields_as 6 m.n default first 0 0 0 0
 fields_of (Decide m) = fields_as 7 m.n default m.seq_num m.decided_idx 0 0 0
 fields_of ProposalForward = fields_as 8 default default first 0 0 0 0
 
-abbrev pub sync_of : ℕ → ℕ → PromiseSync
-sync_of tag start = cond (eqb tag 0) Nothing (From start)
+abbrev pub sync_of : ℕ → ℕ → Option ℕ
+sync_of tag start = cond (eqb tag 0) None (Some start)
 
 abbrev pub promise_of : Fields → promise.Promise
 promise_of f =

@@ -7,10 +7,7 @@ ghost use Rattle.layout_row.specs.Row.{row_length, head_words, row_words, Narrow
 ghost use Rattle.layout_row.specs.Event.{event_most, unfit_from, event_of, event_in, quorum_of, configuration_in};
 
 use ballot::Ballot;
-use messages::{
-    AcceptDecide, AcceptSync, Accepted, Decide, Event, Head, NotAccepted, PaxosMessage, PaxosMsg,
-    Prepare, PrepareReq, Promise, PromiseSync, Row,
-};
+use messages::{AcceptDecide, AcceptSync, Accepted, Decide, Event, Head, NotAccepted, PaxosMessage, PaxosMsg, Prepare, PrepareReq, Promise, Row};
 use quorum::{Configuration, FlexibleQuorum, Quorum};
 use sequence::SequenceNumber;
 
@@ -31,21 +28,21 @@ pub struct Fields {
     pub sync_idx: usize,
 }
 
-fn sync_tag(s: PromiseSync) -> u64
+fn sync_tag(s: Option<usize>) -> u64
     ensures { result ≡ sync_tag s }
 {
     match s {
-        PromiseSync::Nothing => 0,
-        PromiseSync::From(_) => 1,
+        None => 0,
+        Some(_) => 1,
     }
 }
 
-fn sync_at(s: PromiseSync) -> usize
+fn sync_at(s: Option<usize>) -> usize
     ensures { result ≡ sync_at s }
 {
     match s {
-        PromiseSync::Nothing => 0,
-        PromiseSync::From(start) => start,
+        None => 0,
+        Some(start) => start,
     }
 }
 
@@ -120,13 +117,13 @@ fn fields_of(m: PaxosMsg) -> Fields
     }
 }
 
-fn sync_of(tag: u64, start: usize) -> PromiseSync
+fn sync_of(tag: u64, start: usize) -> Option<usize>
     ensures { result ≡ sync_of tag start }
 {
     if tag == 0 {
-        return PromiseSync::Nothing;
+        return None;
     }
-    PromiseSync::From(start)
+    Some(start)
 }
 
 fn promise_of(f: Fields) -> Promise

@@ -1,14 +1,11 @@
 -- What a leader does with each event (leader.rs; docs/RULES.md, R9). Each definition takes the box last. Most are named like the function that meets them
 -- (handle_leader: handle_leader); each contract in src/ cites its own.
-use Rattle.std.specs.Prelude.{ℕ, Bool, true, false, cond, ltb, eqb}
+use Rattle.std.specs.Prelude.{ℕ, Bool, true, false, cond, ltb, eqb, Option, None, Some}
 use Rattle.ballot.specs.Ballot.{above, same}
 use Rattle.ballot.specs.declared.Ballot.{Ballot}
 use Rattle.leader_state.specs.declared.PromiseMetaData.{PromiseMetaData}
 use Rattle.leader_state.specs.declared.PromiseState.TheVariants.{NotPromised, PromisedHigher}
-use Rattle.leader_state.specs.declared.Latest.TheVariants as latest
 use Rattle.leader_state.specs.declared.LogSync.{LogSync}
-use Rattle.leader_state.specs.declared.HeldSync.{HeldSync}
-use Rattle.leader_state.specs.declared.HeldSync.TheVariants.{Nothing, Held}
 use Rattle.leader_state.specs.State.{with_of, set_accepted, set_promise_state}
 use Rattle.leader_state.specs.Promises.{beats_best, set_promise_of, take_sync, max_decided}
 use Rattle.leader_state.specs.Places.{chosen, promised_followers, preparable_peers}
@@ -20,8 +17,6 @@ use Rattle.paxos_box.specs.declared.Standing.{Standing}
 use Rattle.paxos_box.specs.declared.Standing.TheVariants.{LeaderPrepare, LeaderAccept, FollowerPrepare, FollowerAccept, Other}
 use Rattle.paxos_box.specs.declared.LogOp.{LogOp}
 use Rattle.paxos_box.specs.declared.LogOp.TheVariants.{Keep, PutGiven, PutHeld}
-use Rattle.paxos_box.specs.declared.BestOp.{BestOp}
-use Rattle.paxos_box.specs.declared.BestOp.TheVariants as best
 use Rattle.paxos_box.specs.Box.{unfit, with_leader, with_state, with_writes, set_promised, set_decided, best_op, is_leader, standing_of}
 use Rattle.sends.specs.declared.Each.{Each}
 use Rattle.sends.specs.declared.Each.TheVariants as each
@@ -42,10 +37,10 @@ for_peers what s = for_marked (peers_of s.config) what s.config.depots s
 abbrev pub own_meta : SequencePaxos → PromiseMetaData
 own_meta s = record { n_accepted = s.internal_storage.accepted_round; accepted_idx = log_length s; decided_idx = s.internal_storage.decided_idx; pid = s.config.pid }
 
-abbrev pub keep_promise : PromiseMetaData → HeldSync → Bool → SequencePaxos → SequencePaxos
+abbrev pub keep_promise : PromiseMetaData → Option LogSync → Bool → SequencePaxos → SequencePaxos
 keep_promise m sync check s = with_leader (set_promise_of s.config m sync check s.leader_state).state s
 
-abbrev pub reached : PromiseMetaData → HeldSync → Bool → SequencePaxos → Bool
+abbrev pub reached : PromiseMetaData → Option LogSync → Bool → SequencePaxos → Bool
 reached m sync check s = (set_promise_of s.config m sync check s.leader_state).reached
 
 -- A leader event (R9.1, R9.2). Not above one's own leader ballot and promise: nothing. The own pid: a new leader's record with the own promise in it,
@@ -54,7 +49,7 @@ unfoldable pub new_leader : Ballot → SequencePaxos → SequencePaxos
 new_leader n s = set_promised n (with_leader (with_of n s.config.depots s.leader_state) s)
 
 unfoldable pub own_promise : SequencePaxos → SequencePaxos
-own_promise s = keep_promise (own_meta s) Nothing true s
+own_promise s = keep_promise (own_meta s) None true s
 
 unfoldable pub become_leader : Ballot → SequencePaxos → SequencePaxos
 become_leader n s = for_peers each.Prepare (with_state (record { role = Leader; phase = phase.Prepare }) (own_promise (new_leader n s)))
@@ -72,7 +67,7 @@ handle_leader n s =
 
 -- PrepareReq (R9.3): a Leader whose ballot is not below the one told takes back that depot's promise and its remembered AcceptDecide, and prepares it again
 unfoldable pub prepare_again : ℕ → SequencePaxos → SequencePaxos
-prepare_again from s = send_prepare from (set_latest_of from latest.Nothing (on_depot from (set_promise_state NotPromised) s))
+prepare_again from s = send_prepare from (set_latest_of from None (on_depot from (set_promise_state NotPromised) s))
 
 unfoldable pub handle_prepare_req : Ballot → ℕ → SequencePaxos → SequencePaxos
 handle_prepare_req n from s =
@@ -116,9 +111,9 @@ sync_held x brought highest s =
     cond (sync_unfit x (change_of brought s) s.leader_state.max_promise.meta.decided_idx s) (unfit s)
     (leader_syncs highest (sync_end x) (put_op brought x) s)
 
-abbrev pub sync_by : HeldSync → Bool → ℕ → SequencePaxos → SequencePaxos
-sync_by (Held x) brought highest s = sync_held x brought highest s
-sync_by Nothing brought highest s = leader_syncs highest (log_length s) Keep s
+abbrev pub sync_by : Option LogSync → Bool → ℕ → SequencePaxos → SequencePaxos
+sync_by (Some x) brought highest s = sync_held x brought highest s
+sync_by None brought highest s = leader_syncs highest (log_length s) Keep s
 
 unfoldable pub sync_with_best : Bool → SequencePaxos → SequencePaxos
 sync_with_best brought s = sync_by s.leader_state.max_promise.sync brought (max_decided s.config.depots s.leader_state) s
@@ -137,15 +132,15 @@ handle_majority_promises brought s =
     (sync_with_best brought s)))))
 
 -- a Promise in (Leader, Prepare) (R9.7): kept, and best where it beats the best; its sync's entries are kept for later unless this Promise completes the read quorum
-abbrev pub held_length : HeldSync → BestOp
-held_length (Held x) = best.Given x.len
-held_length Nothing = best.Keep
+abbrev pub held_length : Option LogSync → Option ℕ
+held_length (Some x) = Some x.len
+held_length None = None
 
-abbrev pub keep_sync : Bool → HeldSync → SequencePaxos → SequencePaxos
+abbrev pub keep_sync : Bool → Option LogSync → SequencePaxos → SequencePaxos
 keep_sync true sync s = with_writes (best_op (held_length sync) s.plan.writes) s
 keep_sync false sync s = s
 
-unfoldable pub handle_promise_prepare : PromiseMetaData → HeldSync → SequencePaxos → SequencePaxos
+unfoldable pub handle_promise_prepare : PromiseMetaData → Option LogSync → SequencePaxos → SequencePaxos
 handle_promise_prepare m sync s =
     cond (reached m sync true s)
     (handle_majority_promises (beats_best m s.leader_state) (keep_promise m sync true s))
@@ -153,21 +148,21 @@ handle_promise_prepare m sync s =
 
 -- in (Leader, Accept) (R9.10): kept, never best, and the follower is synced
 unfoldable pub handle_promise_accept : PromiseMetaData → SequencePaxos → SequencePaxos
-handle_promise_accept m s = acc_sync_to m.pid (keep_promise m Nothing false s)
+handle_promise_accept m s = acc_sync_to m.pid (keep_promise m None false s)
 
 -- a sync brought that ends past 512 is unfit where the Promise is taken (R2.4.21)
-abbrev pub brings_past : HeldSync → Bool
-brings_past (Held x) = ends_past x
-brings_past Nothing = false
+abbrev pub brings_past : Option LogSync → Bool
+brings_past (Some x) = ends_past x
+brings_past None = false
 
-abbrev pub promise_in : Standing → PromiseMetaData → HeldSync → SequencePaxos → SequencePaxos
+abbrev pub promise_in : Standing → PromiseMetaData → Option LogSync → SequencePaxos → SequencePaxos
 promise_in LeaderPrepare m sync s = cond (brings_past sync) (unfit s) (handle_promise_prepare m sync s)
 promise_in LeaderAccept m sync s = cond (brings_past sync) (unfit s) (handle_promise_accept m s)
 promise_in FollowerPrepare m sync s = s
 promise_in FollowerAccept m sync s = s
 promise_in Other m sync s = s
 
-unfoldable pub handle_promise : Ballot → PromiseMetaData → HeldSync → SequencePaxos → SequencePaxos
+unfoldable pub handle_promise : Ballot → PromiseMetaData → Option LogSync → SequencePaxos → SequencePaxos
 handle_promise n m sync s =
     cond (same n s.leader_state.n_leader) (promise_in (standing_of s.state.role s.state.phase) m sync s) s
 

@@ -8,8 +8,8 @@ ghost use Rattle.sends.specs.Sends.{few_entries};
 ghost use Rattle.leader.specs.Leader.{for_followers, for_preparable, new_leader, own_promise, become_leader, become_follower, handle_leader, prepare_again, handle_prepare_req, set_accepted_of, own_accepted, accept_entries_leader, handle_forwarded_proposal, leader_syncs, sync_held, sync_with_best, sync_taken, handle_majority_promises, keep_sync, handle_promise_prepare, handle_promise_accept, brings_past, promise_in, handle_promise, newly_chosen, decide_if_chosen, accepted_taken, accepted_in, handle_accepted, lost_promise, handle_not_accepted, resend_messages_leader, put_op, change_of, held_length};
 
 use ballot::Ballot;
-use leader_state::{HeldSync, Latest, LogSync, PromiseMetaData};
-use paxos_box::{BestOp, LogOp, Phase, Role, SequencePaxos, Standing};
+use leader_state::{LogSync, PromiseMetaData};
+use paxos_box::{LogOp, Phase, Role, SequencePaxos, Standing};
 use sends::Each;
 
 fn for_followers(s: SequencePaxos, what: Each) -> SequencePaxos
@@ -60,7 +60,7 @@ fn own_promise(s: SequencePaxos) -> SequencePaxos
         pid: c.pid,
     };
     let l = s.leader_state;
-    let kept = l.set_promise(m, HeldSync::Nothing, true, c);
+    let kept = l.set_promise(m, None, true, c);
     s.set_leader_state(kept.state)
 }
 
@@ -117,7 +117,7 @@ fn prepare_again(s: SequencePaxos, from: u64) -> SequencePaxos
 {
     let l = s.leader_state;
     let s1 = s.set_leader_state(l.reset_promise(from));
-    let s2 = sends::set_latest_accept_meta(s1, from, Latest::Nothing);
+    let s2 = sends::set_latest_accept_meta(s1, from, None);
     sends::send_prepare(s2, from)
 }
 
@@ -256,8 +256,8 @@ fn sync_with_best(s: SequencePaxos, brought: bool) -> SequencePaxos
     let best = l.max_promise;
     let sync = best.sync;
     match sync {
-        HeldSync::Held(x) => sync_held(s, x, brought, highest),
-        HeldSync::Nothing => leader_syncs(s, highest, s.internal_storage.accepted_idx, LogOp::Keep),
+        Some(x) => sync_held(s, x, brought, highest),
+        None => leader_syncs(s, highest, s.internal_storage.accepted_idx, LogOp::Keep),
     }
 }
 
@@ -284,18 +284,18 @@ fn handle_majority_promises(s: SequencePaxos, brought: bool) -> SequencePaxos
     for_followers(s5, Each::AcceptSync)
 }
 
-fn held_length(sync: HeldSync) -> BestOp
+fn held_length(sync: Option<LogSync>) -> Option<usize>
     ensures { result ≡ held_length sync }
 {
     match sync {
-        HeldSync::Held(x) => BestOp::Given(x.len),
-        HeldSync::Nothing => BestOp::Keep,
+        Some(x) => Some(x.len),
+        None => None,
     }
 }
 
 // The entries of a sync that came with the new best promise are kept in its buffer.
 #[tactic(auto, unfolding(leader_state::specs::Promises::beats))]
-fn keep_sync(s: SequencePaxos, beats: bool, sync: HeldSync) -> SequencePaxos
+fn keep_sync(s: SequencePaxos, beats: bool, sync: Option<LogSync>) -> SequencePaxos
     requires { Room s }
     ensures value { result ≡ keep_sync beats sync s }
     ensures room { Room result }
@@ -309,7 +309,7 @@ fn keep_sync(s: SequencePaxos, beats: bool, sync: HeldSync) -> SequencePaxos
 }
 
 #[tactic(auto, unfolding(crate::specs::Leader::handle_promise_prepare))]
-fn handle_promise_prepare(s: SequencePaxos, m: PromiseMetaData, sync: HeldSync) -> SequencePaxos
+fn handle_promise_prepare(s: SequencePaxos, m: PromiseMetaData, sync: Option<LogSync>) -> SequencePaxos
     requires room { Room s }
     requires own_place { own_place m.pid }
     ensures value { result ≡ handle_promise_prepare m sync s }
@@ -333,17 +333,17 @@ fn handle_promise_accept(s: SequencePaxos, m: PromiseMetaData) -> SequencePaxos
     ensures room_2 { Room result }
 {
     let l = s.leader_state;
-    let kept = l.set_promise(m, HeldSync::Nothing, false, s.config);
+    let kept = l.set_promise(m, None, false, s.config);
     let s1 = s.set_leader_state(kept.state);
     sends::send_accsync(s1, m.pid)
 }
 
-fn brings_past(sync: HeldSync) -> bool
+fn brings_past(sync: Option<LogSync>) -> bool
     ensures { result ≡ brings_past sync }
 {
     match sync {
-        HeldSync::Held(x) => log_plan::ends_past(x),
-        HeldSync::Nothing => false,
+        Some(x) => log_plan::ends_past(x),
+        None => false,
     }
 }
 
@@ -353,7 +353,7 @@ pub fn handle_promise(
     s: SequencePaxos,
     n: Ballot,
     m: PromiseMetaData,
-    sync: HeldSync,
+    sync: Option<LogSync>,
 ) -> SequencePaxos
     requires room { Room s }
     requires own_place { own_place m.pid }
@@ -368,7 +368,7 @@ pub fn handle_promise(
     s
 }
 
-fn promise_in(s: SequencePaxos, at: Standing, m: PromiseMetaData, sync: HeldSync) -> SequencePaxos
+fn promise_in(s: SequencePaxos, at: Standing, m: PromiseMetaData, sync: Option<LogSync>) -> SequencePaxos
     requires room { Room s }
     requires own_place { own_place m.pid }
     ensures value { result ≡ promise_in at m sync s }
@@ -383,7 +383,7 @@ fn promise_in(s: SequencePaxos, at: Standing, m: PromiseMetaData, sync: HeldSync
     }
 }
 
-fn promise_prepare_fit(s: SequencePaxos, m: PromiseMetaData, sync: HeldSync) -> SequencePaxos
+fn promise_prepare_fit(s: SequencePaxos, m: PromiseMetaData, sync: Option<LogSync>) -> SequencePaxos
     requires room { Room s }
     requires own_place { own_place m.pid }
     ensures value { result ≡ promise_in Standing.LeaderPrepare m sync s }
@@ -395,7 +395,7 @@ fn promise_prepare_fit(s: SequencePaxos, m: PromiseMetaData, sync: HeldSync) -> 
     handle_promise_prepare(s, m, sync)
 }
 
-fn promise_accept_fit(s: SequencePaxos, m: PromiseMetaData, sync: HeldSync) -> SequencePaxos
+fn promise_accept_fit(s: SequencePaxos, m: PromiseMetaData, sync: Option<LogSync>) -> SequencePaxos
     requires room { Room s }
     requires own_place { own_place m.pid }
     ensures value { result ≡ promise_in Standing.LeaderAccept m sync s }

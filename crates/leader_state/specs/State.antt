@@ -1,5 +1,5 @@
 -- The leader's record, and the same with one depot's place changed.
-use Rattle.std.specs.Prelude.{ℕ, ◌+◌, ◌-◌, ◌≤◌, ◌<◌, List, get_or, set}
+use Rattle.std.specs.Prelude.{ℕ, ◌+◌, ◌-◌, ◌≤◌, ◌<◌, List, get_or, set, Option, None}
 use Rattle.base.specs.Limits.{max_depots}
 use Rattle.base.specs.Lists.{on_first}
 use Rattle.ballot.specs.Ballot.{default}
@@ -9,9 +9,6 @@ use Rattle.sequence.specs.declared.SequenceNumber.{SequenceNumber}
 use Rattle.leader_state.specs.declared.Depot.{Depot}
 use Rattle.leader_state.specs.declared.PromiseState.{PromiseState}
 use Rattle.leader_state.specs.declared.PromiseState.TheVariants.{NotPromised}
-use Rattle.leader_state.specs.declared.Latest.{Latest}
-use Rattle.leader_state.specs.declared.Latest.TheVariants.{Nothing}
-use Rattle.leader_state.specs.declared.HeldSync.TheVariants as held
 use Rattle.leader_state.specs.declared.MaxPromise.{MaxPromise}
 use Rattle.leader_state.specs.declared.LeaderState.{LeaderState}
 
@@ -21,7 +18,7 @@ own_place pid = (0 < pid) × (pid ≤ max_depots)
 
 -- a depot's place as fresh: not promised, number (0, 0), accepted index 0, nothing remembered
 abbrev pub fresh : Depot
-fresh = record { promise = NotPromised; seq_num = first; accepted_idx = 0; latest = Nothing }
+fresh = record { promise = NotPromised; seq_num = first; accepted_idx = 0; latest = None }
 
 abbrev pub depot_of : ℕ → LeaderState → Depot
 depot_of pid s = get_or s.depots (pid - 1) fresh
@@ -46,7 +43,7 @@ set_seq_num q d = record { promise = d.promise; seq_num = q; accepted_idx = d.ac
 abbrev pub set_accepted : ℕ → Depot → Depot
 set_accepted idx d = record { promise = d.promise; seq_num = d.seq_num; accepted_idx = idx; latest = d.latest }
 
-abbrev pub set_latest : Latest → Depot → Depot
+abbrev pub set_latest : Option ℕ → Depot → Depot
 set_latest l d = record { promise = d.promise; seq_num = d.seq_num; accepted_idx = d.accepted_idx; latest = l }
 
 -- the next session, its counter from 0 again; the next counter
@@ -58,7 +55,7 @@ next_counter d = set_seq_num (record { session = d.seq_num.session; counter = d.
 
 -- no best promise yet: the default, which any promise with an accepted entry beats
 abbrev pub no_best : MaxPromise
-no_best = record { meta = record { n_accepted = default; accepted_idx = 0; decided_idx = 0; pid = 0 }; sync = held.Nothing }
+no_best = record { meta = record { n_accepted = default; accepted_idx = 0; decided_idx = 0; pid = 0 }; sync = None }
 
 -- a new leader's record (R5.4); the places past the depots are as found
 unfoldable pub with_of : Ballot → ℕ → LeaderState → LeaderState
@@ -66,4 +63,4 @@ with_of n depots s = record { n_leader = n; depots = on_first depots (λ d. fres
 
 -- every remembered AcceptDecide forgotten; the places past the depots are as found
 unfoldable pub forget_all : ℕ → LeaderState → LeaderState
-forget_all depots s = with_depots (on_first depots (set_latest Nothing) s.depots) s
+forget_all depots s = with_depots (on_first depots (set_latest None) s.depots) s

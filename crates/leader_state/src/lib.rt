@@ -8,7 +8,8 @@ ghost use Rattle.leader_state.specs.State.{own_place, depot_of, with_depot, set_
 ghost use Rattle.leader_state.specs.Promises.{is_promised, decided_state, beats, beats_best, best_after, set_promise_of, take_sync, sync_start, max_decided, promised_count};
 ghost use Rattle.leader_state.specs.Places.{accepted_at, chosen, is_preparable, is_follower, is_peer, promised_followers, preparable_peers};
 
-use ballot::{Ballot, Order};
+use ballot::Ballot;
+use std::cmp::Ordering;
 use quorum::Configuration;
 use sequence::SequenceNumber;
 
@@ -28,20 +29,13 @@ pub enum PromiseState {
     PromisedHigher,
 }
 
-// Where an AcceptDecide that still waits stands in the queue.
-#[derive(Clone, Copy)]
-pub enum Latest {
-    Nothing,
-    At(usize),
-}
-
 // One depot's place: its promise, the last number sent to it, its reported accepted index, its remembered AcceptDecide.
 #[derive(Clone, Copy)]
 pub struct Depot {
     pub promise: PromiseState,
     pub seq_num: SequenceNumber,
     pub accepted_idx: usize,
-    pub latest: Latest,
+    pub latest: Option<usize>,
 }
 
 // A log sync whose entries lie in a lent buffer: where it starts, and how many they are.
@@ -51,17 +45,11 @@ pub struct LogSync {
     pub len: usize,
 }
 
-#[derive(Clone, Copy)]
-pub enum HeldSync {
-    Nothing,
-    Held(LogSync),
-}
-
 // The best promise and the log sync that came with it.
 #[derive(Clone, Copy)]
 pub struct MaxPromise {
     pub meta: PromiseMetaData,
-    pub sync: HeldSync,
+    pub sync: Option<LogSync>,
 }
 
 // The depots of pid 1 up lie at the places 0 up. Places past the configuration's depots are neither read nor changed.
@@ -131,9 +119,9 @@ impl PromiseMetaData {
         let a = self.n_accepted;
         let b = best.n_accepted;
         match a.compare(b) {
-            Order::Greater => true,
-            Order::Equal => best.accepted_idx < self.accepted_idx,
-            Order::Less => false,
+            Ordering::Greater => true,
+            Ordering::Equal => best.accepted_idx < self.accepted_idx,
+            Ordering::Less => false,
         }
     }
 
@@ -174,13 +162,13 @@ impl MaxPromise {
         };
         MaxPromise {
             meta,
-            sync: HeldSync::Nothing,
+            sync: None,
         }
     }
 }
 
 impl Depot {
-    fn with_latest(self, latest: Latest) -> Depot
+    fn with_latest(self, latest: Option<usize>) -> Depot
         ensures { result ≡ set_latest latest self }
     {
         let promise = self.promise;
@@ -204,7 +192,7 @@ impl Depot {
                 counter: 0,
             },
             accepted_idx: 0,
-            latest: Latest::Nothing,
+            latest: None,
         }
     }
 }
@@ -241,7 +229,7 @@ impl LeaderState {
         let mut i: usize = 0;
         while i < end {
             let d = depots[i];
-            depots[i] = d.with_latest(Latest::Nothing);
+            depots[i] = d.with_latest(None);
             i += 1;
         }
         self.depots = depots;
@@ -293,7 +281,7 @@ impl LeaderState {
         self
     }
 
-    pub fn set_latest_accept_meta(mut self, pid: u64, latest: Latest) -> LeaderState
+    pub fn set_latest_accept_meta(mut self, pid: u64, latest: Option<usize>) -> LeaderState
         requires { own_place pid }
         ensures { result ≡ with_depot pid (set_latest latest) self }
     {
@@ -361,7 +349,7 @@ impl LeaderState {
         d.promise
     }
 
-    pub fn get_latest_accept_meta(self, pid: u64) -> Latest
+    pub fn get_latest_accept_meta(self, pid: u64) -> Option<usize>
         requires { own_place pid }
         ensures { result ≡ (depot_of pid self).latest }
     {
@@ -377,7 +365,7 @@ impl LeaderState {
         m.beats(best.meta)
     }
 
-    fn best_after(self, m: PromiseMetaData, sync: HeldSync, check_max_prom: bool) -> MaxPromise
+    fn best_after(self, m: PromiseMetaData, sync: Option<LogSync>, check_max_prom: bool) -> MaxPromise
         ensures { result ≡ best_after m sync check_max_prom self }
     {
         if check_max_prom {
@@ -394,7 +382,7 @@ impl LeaderState {
     pub fn set_promise(
         mut self,
         m: PromiseMetaData,
-        sync: HeldSync,
+        sync: Option<LogSync>,
         check_max_prom: bool,
         c: Configuration,
     ) -> SetPromise
@@ -420,7 +408,7 @@ impl LeaderState {
         let meta = best.meta;
         let next = MaxPromise {
             meta,
-            sync: HeldSync::Nothing,
+            sync: None,
         };
         self.max_promise = next;
         self

@@ -4,7 +4,7 @@
 use ballot::Ballot;
 use cluster::Site;
 use leader_state::LeaderState;
-use messages::{Event, PaxosMessage, PaxosMsg, Promise, PromiseSync};
+use messages::{Event, PaxosMessage, PaxosMsg, Promise};
 use paxos_box::{InternalStorage, Phase, Role, State};
 use quorum::{Configuration, FlexibleQuorum, Quorum};
 use sequence::SequenceNumber;
@@ -64,7 +64,7 @@ fn promise_from(from: u64, n: Ballot) -> Event {
         n_accepted: Ballot::default(),
         decided_idx: 0,
         accepted_idx: 0,
-        log_sync: PromiseSync::Nothing,
+        log_sync: None,
     };
     Event::Message(PaxosMessage {
         from,

@@ -1,5 +1,5 @@
 -- What a step decides about the log and the buffered proposals, in numbers. Each function takes the box last.
-use Rattle.std.specs.Prelude.{ℕ, zero, suc, ◌+◌, ◌-◌, min, max, Bool, true, false, cond, not, ltb, eqb}
+use Rattle.std.specs.Prelude.{ℕ, zero, suc, ◌+◌, ◌-◌, min, max, Bool, true, false, cond, not, ltb, eqb, Some}
 use Rattle.base.specs.Limits.{max_log}
 use Rattle.ballot.specs.declared.Ballot.{Ballot}
 use Rattle.leader_state.specs.declared.LogSync.{LogSync}
@@ -7,7 +7,6 @@ use Rattle.messages.specs.declared.PaxosMsg.TheVariants.{ProposalForward}
 use Rattle.paxos_box.specs.declared.SequencePaxos.{SequencePaxos}
 use Rattle.paxos_box.specs.declared.LogOp.{LogOp}
 use Rattle.paxos_box.specs.declared.LogOp.TheVariants.{Append}
-use Rattle.paxos_box.specs.declared.BufferOp.TheVariants.{Add}
 use Rattle.paxos_box.specs.declared.Sent.TheVariants.{New}
 use Rattle.paxos_box.specs.declared.Source.{Source}
 use Rattle.paxos_box.specs.declared.Source.TheVariants.{Given, Buffered}
@@ -58,7 +57,7 @@ append_buffered s =
 
 -- the given entries join the buffered proposals
 unfoldable pub buffer_given : ℕ → SequencePaxos → SequencePaxos
-buffer_given count s = with_writes (buffer_op (Add count) s.plan.writes) (set_buffered (s.buffered_proposals + count) s)
+buffer_given count s = with_writes (buffer_op (Some count) s.plan.writes) (set_buffered (s.buffered_proposals + count) s)
 
 -- the promise's pid is neither 0 nor oneself
 unfoldable pub has_leader : SequencePaxos → Bool

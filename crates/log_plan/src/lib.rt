@@ -10,7 +10,7 @@ use ballot::Ballot;
 use base::MAX_LOG;
 use leader_state::LogSync;
 use messages::PaxosMsg;
-use paxos_box::{BufferOp, InternalStorage, LogOp, Send, Sent, SequencePaxos, Source};
+use paxos_box::{InternalStorage, LogOp, Send, Sent, SequencePaxos, Source};
 
 fn larger(a: usize, b: usize) -> usize
     ensures { result ≡ max a b }
@@ -164,7 +164,7 @@ pub fn buffer_proposals(s: SequencePaxos, count: usize) -> SequencePaxos
     let w = p.writes;
     let waiting = s.buffered_proposals;
     let s1 = s.set_buffered(waiting + count);
-    s1.set_writes(w.with_buffer(BufferOp::Add(count)))
+    s1.set_writes(w.with_buffer(Some(count)))
 }
 
 // The promise names another depot.

@@ -22,20 +22,13 @@ pub struct Prepare {
     pub accepted_idx: usize,
 }
 
-// Whether a Promise brings a log sync, and where it starts; the suffix stands beside it.
-#[derive(Clone, Copy)]
-pub enum PromiseSync {
-    Nothing,
-    From(usize),
-}
-
 #[derive(Clone, Copy)]
 pub struct Promise {
     pub n: Ballot,
     pub n_accepted: Ballot,
     pub decided_idx: usize,
     pub accepted_idx: usize,
-    pub log_sync: PromiseSync,
+    pub log_sync: Option<usize>,
 }
 
 // The log from `sync_idx` on is to become the suffix, which stands beside it.

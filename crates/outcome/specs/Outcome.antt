@@ -1,5 +1,5 @@
 -- Drain and restart, and the refusals that only a step's outcome shows (4 where a message would be taken, 7, 5, 8, 6).
-use Rattle.std.specs.Prelude.{ℕ, ◌+◌, cond, ltb, eqb}
+use Rattle.std.specs.Prelude.{ℕ, ◌+◌, cond, ltb, eqb, None}
 use Rattle.base.specs.Limits.{max_log, max_buffered, max_messages, max_store}
 use Rattle.ballot.specs.Ballot.{default}
 use Rattle.sequence.specs.Sequence.{first}
@@ -7,21 +7,19 @@ use Rattle.leader_state.specs.State.{with_of, forget_all}
 use Rattle.paxos_box.specs.declared.SequencePaxos.{SequencePaxos}
 use Rattle.paxos_box.specs.declared.Role.TheVariants.{Follower}
 use Rattle.paxos_box.specs.declared.Phase.TheVariants as phase
-use Rattle.paxos_box.specs.declared.AcceptedMeta.TheVariants as meta
-use Rattle.paxos_box.specs.declared.CachedMessage.TheVariants as cached
 use Rattle.paxos_box.specs.Box.{with_leader, with_state, set_meta, set_seq, set_cached, set_buffered}
 use Rattle.outcome.specs.declared.Decision.{Decision}
 
 -- a drain forgets every remembered position, Accepted included (R11.2)
 unfoldable pub drained : SequencePaxos → SequencePaxos
-drained s = set_meta meta.Nothing (with_leader (forget_all s.config.depots s.leader_state) s)
+drained s = set_meta None (with_leader (forget_all s.config.depots s.leader_state) s)
 
 -- a restart keeps promise, accepted round, log and decided index (R12.1); all else is as fresh, state (Follower, Recover)
 unfoldable pub restarted : SequencePaxos → SequencePaxos
 restarted s =
-    set_cached cached.Nothing
+    set_cached None
     (set_seq first
-    (set_meta meta.Nothing
+    (set_meta None
     (with_leader (with_of default s.config.depots s.leader_state)
     (set_buffered 0
     (with_state (record { role = Follower; phase = phase.Recover }) s)))))

@@ -7,7 +7,7 @@ ghost use Rattle.outcome.specs.Outcome.{drained, restarted, queue_refusal, outco
 
 use ballot::Ballot;
 use base::{MAX_BUFFERED, MAX_LOG, MAX_MESSAGES, MAX_STORE};
-use paxos_box::{AcceptedMeta, CachedMessage, Phase, Role, SequencePaxos};
+use paxos_box::{Phase, Role, SequencePaxos};
 use sequence::SequenceNumber;
 
 // The refusal's number, or 0, and the box: as found where refused, as the step leaves it where taken.
@@ -26,7 +26,7 @@ pub fn take_outgoing_msgs(s: SequencePaxos) -> SequencePaxos
 {
     let l = s.leader_state;
     let s1 = s.set_leader_state(l.reset_latest_accept_meta(s.config));
-    s1.set_latest_accepted(AcceptedMeta::Nothing)
+    s1.set_latest_accepted(None)
 }
 
 // Promise, accepted round, log and decided index are kept; all else is as fresh.
@@ -40,9 +40,9 @@ pub fn restart(s: SequencePaxos) -> SequencePaxos
     let s2 = s1.set_buffered(0);
     let l = s.leader_state;
     let s3 = s2.set_leader_state(l.with(Ballot::default(), s.config));
-    let s4 = s3.set_latest_accepted(AcceptedMeta::Nothing);
+    let s4 = s3.set_latest_accepted(None);
     let s5 = s4.set_current_seq_num(SequenceNumber::default());
-    s5.set_cached(CachedMessage::Nothing)
+    s5.set_cached(None)
 }
 
 #[tactic(auto, unfolding(crate::specs::Outcome::queue_refusal))]

@@ -1,5 +1,8 @@
 -- A box with one thing changed, and one thing more in its plan. Each function takes the box last.
-use Rattle.std.specs.Prelude.{ℕ, ◌+◌, Bool, true, false, cond, List, ltb, set}
+use Rattle.std.specs.Prelude.{ℕ, ◌+◌, Bool, true, false, cond, List, ltb, set, Option}
+use Rattle.leader_state.specs.declared.LogSync.{LogSync}
+use Rattle.paxos_box.specs.declared.AcceptedAt.{AcceptedAt}
+use Rattle.paxos_box.specs.declared.CachedPromise.{CachedPromise}
 use Rattle.ballot.specs.declared.Ballot.{Ballot}
 use Rattle.sequence.specs.declared.SequenceNumber.{SequenceNumber}
 use Rattle.leader_state.specs.declared.LeaderState.{LeaderState}
@@ -11,11 +14,6 @@ use Rattle.paxos_box.specs.declared.Sends.{Sends}
 use Rattle.paxos_box.specs.declared.Send.{Send}
 use Rattle.paxos_box.specs.declared.Writes.{Writes}
 use Rattle.paxos_box.specs.declared.LogOp.{LogOp}
-use Rattle.paxos_box.specs.declared.CachedOp.{CachedOp}
-use Rattle.paxos_box.specs.declared.BestOp.{BestOp}
-use Rattle.paxos_box.specs.declared.BufferOp.{BufferOp}
-use Rattle.paxos_box.specs.declared.CachedMessage.{CachedMessage}
-use Rattle.paxos_box.specs.declared.AcceptedMeta.{AcceptedMeta}
 use Rattle.paxos_box.specs.declared.Sent.{Sent}
 use Rattle.paxos_box.specs.declared.Sent.TheVariants.{New, Join, Raise}
 use Rattle.paxos_box.specs.declared.Role.{Role}
@@ -38,14 +36,14 @@ set_buffered x s = record { config = s.config; internal_storage = s.internal_sto
 abbrev pub with_leader : LeaderState → SequencePaxos → SequencePaxos
 with_leader x s = record { config = s.config; internal_storage = s.internal_storage; state = s.state; buffered_proposals = s.buffered_proposals; outgoing = s.outgoing; leader_state = x; latest_accepted_meta = s.latest_accepted_meta; current_seq_num = s.current_seq_num; cached_promise_message = s.cached_promise_message; plan = s.plan }
 
-abbrev pub set_meta : AcceptedMeta → SequencePaxos → SequencePaxos
-set_meta x s = record { config = s.config; internal_storage = s.internal_storage; state = s.state; buffered_proposals = s.buffered_proposals; outgoing = s.outgoing; leader_state = s.leader_state; latest_accepted_meta = record { meta = x }; current_seq_num = s.current_seq_num; cached_promise_message = s.cached_promise_message; plan = s.plan }
+abbrev pub set_meta : Option AcceptedAt → SequencePaxos → SequencePaxos
+set_meta x s = record { config = s.config; internal_storage = s.internal_storage; state = s.state; buffered_proposals = s.buffered_proposals; outgoing = s.outgoing; leader_state = s.leader_state; latest_accepted_meta = x; current_seq_num = s.current_seq_num; cached_promise_message = s.cached_promise_message; plan = s.plan }
 
 abbrev pub set_seq : SequenceNumber → SequencePaxos → SequencePaxos
 set_seq x s = record { config = s.config; internal_storage = s.internal_storage; state = s.state; buffered_proposals = s.buffered_proposals; outgoing = s.outgoing; leader_state = s.leader_state; latest_accepted_meta = s.latest_accepted_meta; current_seq_num = x; cached_promise_message = s.cached_promise_message; plan = s.plan }
 
-abbrev pub set_cached : CachedMessage → SequencePaxos → SequencePaxos
-set_cached x s = record { config = s.config; internal_storage = s.internal_storage; state = s.state; buffered_proposals = s.buffered_proposals; outgoing = s.outgoing; leader_state = s.leader_state; latest_accepted_meta = s.latest_accepted_meta; current_seq_num = s.current_seq_num; cached_promise_message = record { message = x }; plan = s.plan }
+abbrev pub set_cached : Option CachedPromise → SequencePaxos → SequencePaxos
+set_cached x s = record { config = s.config; internal_storage = s.internal_storage; state = s.state; buffered_proposals = s.buffered_proposals; outgoing = s.outgoing; leader_state = s.leader_state; latest_accepted_meta = s.latest_accepted_meta; current_seq_num = s.current_seq_num; cached_promise_message = x; plan = s.plan }
 
 abbrev pub with_plan : Plan → SequencePaxos → SequencePaxos
 with_plan x s = record { config = s.config; internal_storage = s.internal_storage; state = s.state; buffered_proposals = s.buffered_proposals; outgoing = s.outgoing; leader_state = s.leader_state; latest_accepted_meta = s.latest_accepted_meta; current_seq_num = s.current_seq_num; cached_promise_message = s.cached_promise_message; plan = x }
@@ -64,13 +62,13 @@ set_length x s = with_storage (record { promise = s.internal_storage.promise; ac
 abbrev pub log_op : LogOp → Writes → Writes
 log_op x w = record { log = x; buffered = w.buffered; dropped = w.dropped; cached = w.cached; best = w.best; buffer = w.buffer }
 
-abbrev pub cached_op : CachedOp → Writes → Writes
+abbrev pub cached_op : Option LogSync → Writes → Writes
 cached_op x w = record { log = w.log; buffered = w.buffered; dropped = w.dropped; cached = x; best = w.best; buffer = w.buffer }
 
-abbrev pub best_op : BestOp → Writes → Writes
+abbrev pub best_op : Option ℕ → Writes → Writes
 best_op x w = record { log = w.log; buffered = w.buffered; dropped = w.dropped; cached = w.cached; best = x; buffer = w.buffer }
 
-abbrev pub buffer_op : BufferOp → Writes → Writes
+abbrev pub buffer_op : Option ℕ → Writes → Writes
 buffer_op x w = record { log = w.log; buffered = w.buffered; dropped = w.dropped; cached = w.cached; best = w.best; buffer = x }
 
 abbrev pub kept_buffered : ℕ → ℕ → Writes → Writes

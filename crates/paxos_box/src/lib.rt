@@ -7,7 +7,7 @@ ghost use Rattle.paxos_box.specs.Room.{Room};
 ghost use Rattle.paxos_box.specs.Box.{is_new, planned, writing, push_of, next_place, unfit, at_top, with_state, with_leader, with_storage, with_writes, set_promised, set_decided, set_length, set_seq, set_cached, set_meta, set_buffered, log_op, cached_op, best_op, buffer_op, kept_buffered, is_recover, is_accept_phase, is_leader, standing_of, leads_in, follows_in};
 
 use ballot::Ballot;
-use leader_state::{HeldSync, LeaderState, LogSync};
+use leader_state::{LeaderState, LogSync};
 use messages::PaxosMsg;
 use quorum::Configuration;
 use sequence::SequenceNumber;
@@ -55,18 +55,7 @@ pub struct CachedPromise {
     pub n_accepted: Ballot,
     pub decided_idx: usize,
     pub accepted_idx: usize,
-    pub sync: HeldSync,
-}
-
-#[derive(Clone, Copy)]
-pub enum CachedMessage {
-    Nothing,
-    Held(CachedPromise),
-}
-
-#[derive(Clone, Copy)]
-pub struct Cached {
-    pub message: CachedMessage,
+    pub sync: Option<LogSync>,
 }
 
 // Where an Accepted that still waits stands in the queue, and of which ballot it is.
@@ -74,17 +63,6 @@ pub struct Cached {
 pub struct AcceptedAt {
     pub n: Ballot,
     pub at: usize,
-}
-
-#[derive(Clone, Copy)]
-pub enum AcceptedMeta {
-    Nothing,
-    At(AcceptedAt),
-}
-
-#[derive(Clone, Copy)]
-pub struct LatestAccepted {
-    pub meta: AcceptedMeta,
 }
 
 // Where a planned message's entries come from: the log as the step leaves it, from a place on; the entries given with the event;
@@ -146,36 +124,15 @@ pub enum LogOp {
     PutHeld(LogSync),
 }
 
-// To the cached promise's buffer: nothing, or the log from a place on.
-#[derive(Clone, Copy)]
-pub enum CachedOp {
-    Keep,
-    FromLog(LogSync),
-}
-
-// To the held sync's buffer: nothing, or the given entries.
-#[derive(Clone, Copy)]
-pub enum BestOp {
-    Keep,
-    Given(usize),
-}
-
-// To the buffered proposals: nothing, or the given entries after those that wait.
-#[derive(Clone, Copy)]
-pub enum BufferOp {
-    Keep,
-    Add(usize),
-}
-
 // What the step writes. `buffered` proposals join the log's end after `log`; `dropped` are dropped.
 #[derive(Clone, Copy)]
 pub struct Writes {
     pub log: LogOp,
     pub buffered: usize,
     pub dropped: usize,
-    pub cached: CachedOp,
-    pub best: BestOp,
-    pub buffer: BufferOp,
+    pub cached: Option<LogSync>,
+    pub best: Option<usize>,
+    pub buffer: Option<usize>,
 }
 
 // What deciding needs of the lists: whether an AcceptDecide (an Accepted) stands where one is remembered, and the first place of the
@@ -206,9 +163,9 @@ pub struct SequencePaxos {
     pub buffered_proposals: usize,
     pub outgoing: Outgoing,
     pub leader_state: LeaderState,
-    pub latest_accepted_meta: LatestAccepted,
+    pub latest_accepted_meta: Option<AcceptedAt>,
     pub current_seq_num: SequenceNumber,
-    pub cached_promise_message: Cached,
+    pub cached_promise_message: Option<CachedPromise>,
     pub plan: Plan,
 }
 
@@ -429,19 +386,17 @@ impl SequencePaxos {
         self
     }
 
-    pub fn set_cached(mut self, message: CachedMessage) -> SequencePaxos
+    pub fn set_cached(mut self, message: Option<CachedPromise>) -> SequencePaxos
         ensures { result ≡ set_cached message self }
     {
-        let c = Cached { message };
-        self.cached_promise_message = c;
+        self.cached_promise_message = message;
         self
     }
 
-    pub fn set_latest_accepted(mut self, meta: AcceptedMeta) -> SequencePaxos
+    pub fn set_latest_accepted(mut self, meta: Option<AcceptedAt>) -> SequencePaxos
         ensures { result ≡ set_meta meta self }
     {
-        let m = LatestAccepted { meta };
-        self.latest_accepted_meta = m;
+        self.latest_accepted_meta = meta;
         self
     }
 
@@ -479,7 +434,7 @@ impl Writes {
         }
     }
 
-    pub fn with_cached(self, cached: CachedOp) -> Writes
+    pub fn with_cached(self, cached: Option<LogSync>) -> Writes
         ensures { result ≡ cached_op cached self }
     {
         let log = self.log;
@@ -495,7 +450,7 @@ impl Writes {
         }
     }
 
-    pub fn with_best(self, best: BestOp) -> Writes
+    pub fn with_best(self, best: Option<usize>) -> Writes
         ensures { result ≡ best_op best self }
     {
         let log = self.log;
@@ -511,7 +466,7 @@ impl Writes {
         }
     }
 
-    pub fn with_buffer(self, buffer: BufferOp) -> Writes
+    pub fn with_buffer(self, buffer: Option<usize>) -> Writes
         ensures { result ≡ buffer_op buffer self }
     {
         let log = self.log;

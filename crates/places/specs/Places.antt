@@ -1,11 +1,9 @@
 -- Tests over the depots' places of the leader's record, 1 to depots: the remembered position, whose the kept promise is, its accepted round.
-use Rattle.std.specs.Prelude.{ℕ, ◌+◌, Bool, false, not, leb, eqb}
+use Rattle.std.specs.Prelude.{ℕ, ◌+◌, Bool, false, not, leb, eqb, Option, None, Some}
 use Rattle.quorum.specs.declared.Configuration.{Configuration}
 use Rattle.leader_state.specs.State.{depot_of}
 use Rattle.leader_state.specs.declared.Depot.{Depot}
 use Rattle.leader_state.specs.declared.LeaderState.{LeaderState}
-use Rattle.leader_state.specs.declared.Latest.{Latest}
-use Rattle.leader_state.specs.declared.Latest.TheVariants as latest
 use Rattle.leader_state.specs.declared.PromiseState.{PromiseState}
 use Rattle.leader_state.specs.declared.PromiseState.TheVariants.{NotPromised, Promised, PromisedHigher}
 use Rattle.hire_book.specs.Below.{any_below}
@@ -18,9 +16,9 @@ unfoldable pub any_place : (ℕ → Depot → Bool) → ℕ → LeaderState → 
 any_place f depots l = any_below (λ i. f (i + 1) (depot_of (i + 1) l)) depots
 
 -- the remembered position is at or past the queue's end
-abbrev pub latest_past : ℕ → Latest → Bool
-latest_past len latest.Nothing = false
-latest_past len (latest.At at) = leb len at
+abbrev pub latest_past : ℕ → Option ℕ → Bool
+latest_past len None = false
+latest_past len (Some at) = leb len at
 
 abbrev pub place_past : ℕ → ℕ → Depot → Bool
 place_past len pid d = latest_past len d.latest

@@ -5,7 +5,7 @@ ghost use Rattle.std.specs.Prelude.{◌≡◌, ◌≤◌};
 ghost use Rattle.base.specs.Limits.{max_depots};
 ghost use Rattle.places.specs.Places.{any_place, latest_past, promise_else, promise_foreign, place_test};
 
-use leader_state::{Depot, Latest, LeaderState, PromiseState};
+use leader_state::{Depot, LeaderState, PromiseState};
 use quorum::Configuration;
 
 // What is asked of each place: whether its remembered position is at or past the queue's end; whether it keeps a promise of another pid;
@@ -17,12 +17,12 @@ pub enum PlaceTest {
     Foreign(Configuration),
 }
 
-fn latest_past(len: usize, latest: Latest) -> bool
+fn latest_past(len: usize, latest: Option<usize>) -> bool
     ensures { result ≡ latest_past len latest }
 {
     match latest {
-        Latest::Nothing => false,
-        Latest::At(at) => len <= at,
+        None => false,
+        Some(at) => len <= at,
     }
 }
 

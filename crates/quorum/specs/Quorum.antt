@@ -1,18 +1,17 @@
 -- Document 01, "Quorums": Majority is depots / 2 rounded down, plus 1, for both; Flexible has a read and a write size. A count reaches a quorum when it is at least the size.
-use Rattle.std.specs.Prelude.{ℕ, ◌+◌, ◌/◌, Bool, true, false, cond, ◌&&◌, leb, ltb, eqb}
+use Rattle.std.specs.Prelude.{ℕ, ◌+◌, ◌/◌, Bool, true, false, cond, ◌&&◌, leb, ltb, eqb, Option, None, Some}
 use Rattle.base.specs.Limits.{min_depots, max_depots}
+use Rattle.quorum.specs.declared.FlexibleQuorum.{FlexibleQuorum}
 use Rattle.quorum.specs.declared.Quorum.{Quorum}
 use Rattle.quorum.specs.declared.Quorum.TheVariants.{Majority, Flexible}
-use Rattle.quorum.specs.declared.FlexibleConfig.{FlexibleConfig}
-use Rattle.quorum.specs.declared.FlexibleConfig.TheVariants.{Nothing, Given}
 use Rattle.quorum.specs.declared.Configuration.{Configuration}
 
 abbrev pub majority_of : ℕ → ℕ
 majority_of depots = depots / 2 + 1
 
-abbrev pub with_of : FlexibleConfig → ℕ → Quorum
-with_of (Given q) depots = Flexible q
-with_of Nothing depots = Majority (majority_of depots)
+abbrev pub with_of : Option FlexibleQuorum → ℕ → Quorum
+with_of (Some q) depots = Flexible q
+with_of None depots = Majority (majority_of depots)
 
 abbrev pub read_size : Quorum → ℕ
 read_size (Majority m) = m

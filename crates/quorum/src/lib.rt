@@ -19,13 +19,6 @@ pub enum Quorum {
     Flexible(FlexibleQuorum),
 }
 
-// A flexible quorum where one is wanted.
-#[derive(Clone, Copy)]
-pub enum FlexibleConfig {
-    Nothing,
-    Given(FlexibleQuorum),
-}
-
 // What every depot of a cluster is told: how many depots there are, its own pid, and the quorums.
 #[derive(Clone, Copy)]
 pub struct Configuration {
@@ -35,12 +28,12 @@ pub struct Configuration {
 }
 
 impl Quorum {
-    pub fn with(flexible_quorum_config: FlexibleConfig, num_nodes: u64) -> Quorum
+    pub fn with(flexible_quorum_config: Option<FlexibleQuorum>, num_nodes: u64) -> Quorum
         ensures { result ≡ with_of flexible_quorum_config num_nodes }
     {
         match flexible_quorum_config {
-            FlexibleConfig::Given(q) => Quorum::Flexible(q),
-            FlexibleConfig::Nothing => Quorum::Majority(num_nodes / 2 + 1),
+            Some(q) => Quorum::Flexible(q),
+            None => Quorum::Majority(num_nodes / 2 + 1),
         }
     }
 

@@ -1,5 +1,5 @@
 -- The record of a fresh box; the deciding box made of a record; the record made of a decided box.
-use Rattle.std.specs.Prelude.{ℕ, false, List, replicate}
+use Rattle.std.specs.Prelude.{ℕ, false, List, replicate, None}
 use Rattle.base.specs.Limits.{max_depots, max_buffered}
 use Rattle.ballot.specs.Ballot.{default}
 use Rattle.sequence.specs.Sequence.{first}
@@ -13,13 +13,8 @@ use Rattle.paxos_box.specs.declared.Sight.{Sight}
 use Rattle.paxos_box.specs.declared.Sent.TheVariants.{New}
 use Rattle.paxos_box.specs.declared.Source.TheVariants as source
 use Rattle.paxos_box.specs.declared.LogOp.TheVariants as log
-use Rattle.paxos_box.specs.declared.CachedOp.TheVariants as cached
-use Rattle.paxos_box.specs.declared.BestOp.TheVariants as best
-use Rattle.paxos_box.specs.declared.BufferOp.TheVariants as buffer
 use Rattle.paxos_box.specs.declared.Role.TheVariants.{Follower}
 use Rattle.paxos_box.specs.declared.Phase.TheVariants as phase
-use Rattle.paxos_box.specs.declared.AcceptedMeta.TheVariants as meta
-use Rattle.paxos_box.specs.declared.CachedMessage.TheVariants as message
 use Rattle.record.specs.declared.Record.{Record}
 
 -- a box that never ran
@@ -31,9 +26,9 @@ fresh_record =
       buffered_proposals = record { entries = replicate max_buffered 0; len = 0 };
       outgoing = 0;
       leader_state = record { n_leader = default; depots = replicate max_depots fresh; max_promise = no_best };
-      latest_accepted_meta = record { meta = meta.Nothing };
+      latest_accepted_meta = None;
       current_seq_num = first;
-      cached_promise_message = record { message = message.Nothing };
+      cached_promise_message = None;
     }
 
 -- a plan of nothing
@@ -44,7 +39,7 @@ abbrev pub fresh_plan : Sight → Plan
 fresh_plan sight =
     record {
       sends = record { items = replicate 8 no_send; count = 0; messages = 0; entries = 0 };
-      writes = record { log = log.Keep; buffered = 0; dropped = 0; cached = cached.Keep; best = best.Keep; buffer = buffer.Keep };
+      writes = record { log = log.Keep; buffered = 0; dropped = 0; cached = None; best = None; buffer = None };
       unfit = false;
       top = false;
       sight = sight;

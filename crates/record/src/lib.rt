@@ -7,11 +7,7 @@ ghost use Rattle.record.specs.Record.{fresh_record, fresh_plan, load_of, store_o
 use ballot::Ballot;
 use leader_state::{Depot, LeaderState, MaxPromise};
 use messages::PaxosMsg;
-use paxos_box::{
-    AcceptedMeta, BestOp, BufferOp, Cached, CachedMessage, CachedOp, InternalStorage,
-    LatestAccepted, LogOp, Outgoing, Phase, Plan, Role, Send, Sends, Sent, SequencePaxos, Sight,
-    Source, State, Writes,
-};
+use paxos_box::{AcceptedAt, CachedPromise, InternalStorage, LogOp, Outgoing, Phase, Plan, Role, Send, Sends, Sent, SequencePaxos, Sight, Source, State, Writes};
 use quorum::Configuration;
 use sequence::SequenceNumber;
 
@@ -30,9 +26,9 @@ pub struct Record {
     pub buffered_proposals: Buffered,
     pub outgoing: usize,
     pub leader_state: LeaderState,
-    pub latest_accepted_meta: LatestAccepted,
+    pub latest_accepted_meta: Option<AcceptedAt>,
     pub current_seq_num: SequenceNumber,
-    pub cached_promise_message: Cached,
+    pub cached_promise_message: Option<CachedPromise>,
 }
 
 // A plan of nothing.
@@ -55,9 +51,9 @@ fn fresh_plan(sight: Sight) -> Plan
         log: LogOp::Keep,
         buffered: 0,
         dropped: 0,
-        cached: CachedOp::Keep,
-        best: BestOp::Keep,
-        buffer: BufferOp::Keep,
+        cached: None,
+        best: None,
+        buffer: None,
     };
     Plan {
         sends,
@@ -95,12 +91,6 @@ impl Record {
             depots: [place; 7],
             max_promise,
         };
-        let latest_accepted_meta = LatestAccepted {
-            meta: AcceptedMeta::Nothing,
-        };
-        let cached_promise_message = Cached {
-            message: CachedMessage::Nothing,
-        };
         let current_seq_num = SequenceNumber::default();
         Record {
             internal_storage,
@@ -108,9 +98,9 @@ impl Record {
             buffered_proposals,
             outgoing: 0,
             leader_state,
-            latest_accepted_meta,
+            latest_accepted_meta: None,
             current_seq_num,
-            cached_promise_message,
+            cached_promise_message: None,
         }
     }
 

@@ -1,4 +1,5 @@
 -- What refusals 1 to 4 leave is all that the laws of deciding ask of a box and an event.
+use Rattle.std.specs.Prelude.{Option, None, Some}
 use Prim.Native.Nat.{ℕ, ◌≤◌}
 use mathlib.Core.Path.{◌≡◌, refl, ap}
 use mathlib.Core.Bool.{Bool, true, false}
@@ -7,11 +8,11 @@ use native.Mathlib.Omega.{arith}
 use lib.ListN.{length}
 use Rattle.base.specs.Limits.{max_log, max_depots}
 use Rattle.ballot.specs.Ballot.{is_default}
+use Rattle.paxos_box.specs.declared.CachedPromise.{CachedPromise}
+use Rattle.leader_state.specs.declared.LogSync.{LogSync}
 use Rattle.ballot.specs.declared.Ballot.{Ballot}
 use Rattle.ballot.proofs.Laws.{default-zero}
 use Rattle.quorum.specs.declared.Configuration.{Configuration}
-use Rattle.leader_state.specs.declared.HeldSync.{HeldSync}
-use Rattle.leader_state.specs.declared.HeldSync.TheVariants as held
 use Rattle.messages.specs.declared.Row.{Row}
 use Rattle.messages.specs.declared.Event.{Event}
 use Rattle.messages.specs.declared.Event.TheVariants as event
@@ -19,8 +20,6 @@ use Rattle.messages.specs.declared.PaxosMsg.{PaxosMsg}
 use Rattle.messages.specs.declared.PaxosMsg.TheVariants as msg
 use Rattle.paxos_box.specs.Box.{is_leader}
 use Rattle.paxos_box.specs.declared.SequencePaxos.{SequencePaxos}
-use Rattle.paxos_box.specs.declared.CachedMessage.{CachedMessage}
-use Rattle.paxos_box.specs.declared.CachedMessage.TheVariants as cached
 use Rattle.follower.specs.Follower.{count_of}
 use Rattle.sequence_paxos.specs.Fit.{fit_event}
 use Rattle.decide_laws.proofs.Follower.{CachedWithin}
@@ -42,13 +41,13 @@ known-within c n k = by (is_default n) refl
     by false q = (k q).1
 
 -- a held sync ends within the log's limit, so it has no more entries
-few-held : (x : HeldSync) (buffer : List ℕ) → SyncFit x buffer → count_of x ≤ max_log
-few-held held.Nothing buffer f = omega arith
-few-held (held.Held x) buffer f = omega (arith, f.0)
+few-held : (x : Option LogSync) (buffer : List ℕ) → SyncFit x buffer → count_of x ≤ max_log
+few-held None buffer f = omega arith
+few-held (Some x) buffer f = omega (arith, f.0)
 
-cached-within : (c : Configuration) (m : CachedMessage) (buffer : List ℕ) → SyncFit (sync_in m) buffer → CachedFit c m → CachedWithin c m
-cached-within c cached.Nothing buffer f k = tt
-cached-within c (cached.Held p) buffer f k = (few-held p.sync buffer f, k.0.1)
+cached-within : (c : Configuration) (m : Option CachedPromise) (buffer : List ℕ) → SyncFit (sync_in m) buffer → CachedFit c m → CachedWithin c m
+cached-within c None buffer f k = tt
+cached-within c (Some p) buffer f k = (few-held p.sync buffer f, k.0.1)
 
 ballot-of : (c : Configuration) (from : ℕ) (m : PaxosMsg) (entries : List ℕ) → MessageFit c from m entries → BallotOf m c
 ballot-of c from (msg.PrepareReq m) entries f = tt
@@ -86,7 +85,7 @@ module _ (c : Configuration) (r : Record) (row : Row) (l : Lent) (e : Event) (en
         placed = record { positive = t.stands.own.0; own = t.stands.own.1; depots = t.stands.most };
         log = t.whole.ends;
         buffer = t.whole.buffer;
-        cached = cached-within c r.cached_promise_message.message l.cached t.whole.cached t.whole.message;
+        cached = cached-within c r.cached_promise_message l.cached t.whole.cached t.whole.message;
         own = λ q. t.whole.leader (ap is_leader q);
         promised = known-within c r.internal_storage.promise t.whole.promise;
       }

@@ -1,4 +1,5 @@
 -- What each test says that does not hold.
+use Rattle.std.specs.Prelude.{Option, None, Some}
 use Prim.Native.Nat.{ℕ, ◌+◌, ◌≤◌, ◌<◌}
 use mathlib.Core.Path.{◌≡◌, refl}
 use mathlib.Core.Bool.{Bool, true, false, not, ◌&&◌}
@@ -11,27 +12,20 @@ use lib.Seq.{get_or-take, get_or-drop}
 use borrow.Author.Tests.{ltb-true, ltb-false, leb-false, eqb-true, eqb-false, not-false, lt-ltb}
 use Rattle.base.specs.Limits.{max_log, max_store, max_entry, max_proposal}
 use Rattle.ballot.specs.Ballot.{is_default}
+use Rattle.paxos_box.specs.declared.AcceptedAt.{AcceptedAt}
+use Rattle.paxos_box.specs.declared.CachedPromise.{CachedPromise}
+use Rattle.leader_state.specs.declared.LogSync.{LogSync}
 use Rattle.ballot.specs.declared.Ballot.{Ballot}
 use Rattle.quorum.specs.Quorum.{stands_of}
 use Rattle.quorum.specs.declared.Configuration.{Configuration}
 use Rattle.quorum.proofs.Laws.{Stands, stands-says, depot-range}
-use Rattle.leader_state.specs.declared.Latest.{Latest}
-use Rattle.leader_state.specs.declared.Latest.TheVariants as latest
 use Rattle.leader_state.specs.declared.PromiseState.{PromiseState}
 use Rattle.leader_state.specs.declared.PromiseState.TheVariants.{NotPromised, Promised, PromisedHigher}
-use Rattle.leader_state.specs.declared.HeldSync.{HeldSync}
-use Rattle.leader_state.specs.declared.HeldSync.TheVariants as held
 use Rattle.messages.specs.declared.Head.{Head}
 use Rattle.messages.specs.declared.PaxosMsg.{PaxosMsg}
 use Rattle.messages.specs.declared.PaxosMsg.TheVariants.{PrepareReq, Prepare, Promise, AcceptSync, AcceptDecide, Accepted, NotAccepted, Decide, ProposalForward}
-use Rattle.messages.specs.declared.PromiseSync.{PromiseSync}
-use Rattle.messages.specs.declared.PromiseSync.TheVariants.{Nothing, From}
 use Rattle.messages.specs.declared.Event.{Event}
 use Rattle.messages.specs.declared.Event.TheVariants.{Message, Propose, Leader, Reconnect, Resend, Drain, Restart}
-use Rattle.paxos_box.specs.declared.AcceptedMeta.{AcceptedMeta}
-use Rattle.paxos_box.specs.declared.AcceptedMeta.TheVariants as meta
-use Rattle.paxos_box.specs.declared.CachedMessage.{CachedMessage}
-use Rattle.paxos_box.specs.declared.CachedMessage.TheVariants as cached
 use Rattle.log_plan.specs.Log.{ends_past, sync_end}
 use Rattle.hire_book.specs.Book.{any_above, book_length}
 use Rattle.hire_book.proofs.Below.{neither}
@@ -112,27 +106,27 @@ ballots c ProposalForward e = tt
 
 -- refusal 2, by parts
 
-pub sync-says : (s : HeldSync) (buffer : List ℕ) → held_above s buffer ≡ false → held_past s ≡ false → SyncFit s buffer
+pub sync-says : (s : Option LogSync) (buffer : List ℕ) → held_above s buffer ≡ false → held_past s ≡ false → SyncFit s buffer
 unfolding ends_past
-sync-says held.Nothing buffer a p = tt
-sync-says (held.Held x) buffer a p = (ltb-false max_log (sync_end x) p, first-fit buffer x.len a)
+sync-says None buffer a p = tt
+sync-says (Some x) buffer a p = (ltb-false max_log (sync_end x) p, first-fit buffer x.len a)
 
-pub latest-says : (len : ℕ) (l : Latest) → latest_past len l ≡ false → LatestBelow len l
-latest-says len latest.Nothing e = tt
-latest-says len (latest.At at) e = leb-false len at e
+pub latest-says : (len : ℕ) (l : Option ℕ) → latest_past len l ≡ false → LatestBelow len l
+latest-says len None e = tt
+latest-says len (Some at) e = leb-false len at e
 
 pub promise-says : (c : Configuration) (pid : ℕ) (p : PromiseState) → promise_else pid p ≡ false → promise_foreign c p ≡ false → PromiseFit c pid p
 promise-says c pid NotPromised e f = tt
 promise-says c pid (Promised m) e f = (eqb-true m.pid pid (not-false _ e), known c m.n_accepted f)
 promise-says c pid PromisedHigher e f = tt
 
-pub meta-says : (c : Configuration) (len : ℕ) (m : AcceptedMeta) → meta_past len m ≡ false → meta_foreign c m ≡ false → MetaFit c len m
-meta-says c len meta.Nothing e f = tt
-meta-says c len (meta.At a) e f = (leb-false len a.at e, known c a.n f)
+pub meta-says : (c : Configuration) (len : ℕ) (m : Option AcceptedAt) → meta_past len m ≡ false → meta_foreign c m ≡ false → MetaFit c len m
+meta-says c len None e f = tt
+meta-says c len (Some a) e f = (leb-false len a.at e, known c a.n f)
 
-pub cached-says : (c : Configuration) (m : CachedMessage) → cached_foreign c m ≡ false → message_default m ≡ false → CachedFit c m
-cached-says c cached.Nothing e f = tt
-cached-says c (cached.Held m) e f = let p = known_both c m.n m.n_accepted e in (real c m.n p.0 f, p.1)
+pub cached-says : (c : Configuration) (m : Option CachedPromise) → cached_foreign c m ≡ false → message_default m ≡ false → CachedFit c m
+cached-says c None e f = tt
+cached-says c (Some m) e f = let p = known_both c m.n m.n_accepted e in (real c m.n p.0 f, p.1)
 
 pub apart-says : (h g : Head) → heads_overlap h g ≡ false → Apart h g
 unfolding overlap
@@ -155,9 +149,9 @@ count-says n e = let p = neither (eqb n 0) (ltb max_proposal n) e in (let ne = e
 proposal : (entries : List ℕ) → any_above entries ≡ false → count_off (length entries) ≡ false → Proposal entries
 proposal entries a e = let p = count-says (length entries) e in record { some = p.0; few = p.1; fit = fit entries a }
 
-brings-says : (s : PromiseSync) (entries : List ℕ) → (is_from s && any_above entries) ≡ false → start_past s ≡ false → Brings s entries
-brings-says Nothing entries a p = tt
-brings-says (From start) entries a p = (ltb-false max_log start p, fit entries a)
+brings-says : (s : Option ℕ) (entries : List ℕ) → (is_from s && any_above entries) ≡ false → start_past s ≡ false → Brings s entries
+brings-says None entries a p = tt
+brings-says (Some start) entries a p = (ltb-false max_log start p, fit entries a)
 
 reports : (c : Configuration) (n round : Ballot) (decided accepted : ℕ) → either_past decided accepted ≡ false → either_foreign c n round ≡ false → is_default n ≡ false → ltb accepted decided ≡ false → Reports c n round decided accepted
 reports c n round decided accepted i f d w =

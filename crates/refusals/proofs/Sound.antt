@@ -72,14 +72,14 @@ whole c r row l cells e =
     let k₃ = neither (held_above (cached_sync r) l.cached) _ k₂.1 in
     let k₄ = neither (held_above (best_sync r) l.best) (queued_above r row l.store) k₃.1 in
     let o = neither (ltb max_messages r.outgoing) (ltb max_buffered r.buffered_proposals.len) u.over in
-    let p = neither (any_place (place_past r.outgoing) c.depots r.leader_state) (meta_past r.outgoing r.latest_accepted_meta.meta) u.position in
+    let p = neither (any_place (place_past r.outgoing) c.depots r.leader_state) (meta_past r.outgoing r.latest_accepted_meta) u.position in
     let h = neither (any_head head_outside row r.outgoing) (any_overlap row r.outgoing) u.head in
     let s = neither (held_past (best_sync r)) (held_past (cached_sync r)) u.sync in
     let f₁ = neither (either_foreign c r.internal_storage.promise r.internal_storage.accepted_round) _ u.foreign in
     let f₂ = neither (either_foreign c r.leader_state.n_leader r.leader_state.max_promise.meta.n_accepted) _ f₁.1 in
     let f₃ = neither (any_place (place_foreign c) c.depots r.leader_state) _ f₂.1 in
-    let f₄ = neither (cached_foreign c r.cached_promise_message.message) _ f₃.1 in
-    let f₅ = neither (meta_foreign c r.latest_accepted_meta.meta) (any_head (head_foreign c) row r.outgoing) f₄.1 in
+    let f₄ = neither (cached_foreign c r.cached_promise_message) _ f₃.1 in
+    let f₅ = neither (meta_foreign c r.latest_accepted_meta) (any_head (head_foreign c) row r.outgoing) f₄.1 in
     let n₁ = known_both c r.internal_storage.promise r.internal_storage.accepted_round f₁.0 in
     let n₂ = known_both c r.leader_state.n_leader r.leader_state.max_promise.meta.n_accepted f₂.0 in
     record {
@@ -102,13 +102,13 @@ whole c r row l cells e =
         latest = latest-says r.outgoing (depot_of pid r.leader_state).latest (no_place (place_past r.outgoing) c.depots r.leader_state p.0 pid d.0 d.1);
         promise = promise-says c pid (depot_of pid r.leader_state).promise (no_place misplaced c.depots r.leader_state u.misplaced pid d.0 d.1) (no_place (place_foreign c) c.depots r.leader_state f₃.0 pid d.0 d.1);
       };
-      accepted = meta-says c r.outgoing r.latest_accepted_meta.meta p.1 f₅.0;
+      accepted = meta-says c r.outgoing r.latest_accepted_meta p.1 f₅.0;
       leader = λ on. eqb-true r.leader_state.n_leader.pid c.pid (not-false _ (rw on at u.leader));
       promise = n₁.0;
       round = n₁.1;
       leads = n₂.0;
       best-round = n₂.1;
-      message = cached-says c r.cached_promise_message.message f₄.0 u.default;
+      message = cached-says c r.cached_promise_message f₄.0 u.default;
       book = record { cells = cells; kept = u.book };
     }
 

@@ -1,4 +1,5 @@
 -- What an event says that none of these refusals is given: bounds and places that later code reads off.
+use Rattle.std.specs.Prelude.{Option, None, Some}
 use Prim.Native.Nat.{ℕ, ◌+◌, ◌≤◌, ◌<◌}
 use mathlib.Core.Path.{◌≡◌}
 use mathlib.Core.Bool.{true, false}
@@ -7,29 +8,22 @@ use mathlib.Core.Logic.{◌⊎◌}
 use lib.ListN.{length, get_or}
 use Rattle.base.specs.Limits.{max_log, max_messages, max_buffered, max_store, max_entry, max_proposal}
 use Rattle.ballot.specs.Ballot.{is_default}
+use Rattle.paxos_box.specs.declared.AcceptedAt.{AcceptedAt}
+use Rattle.paxos_box.specs.declared.CachedPromise.{CachedPromise}
+use Rattle.leader_state.specs.declared.LogSync.{LogSync}
 use Rattle.ballot.specs.declared.Ballot.{Ballot}
 use Rattle.quorum.specs.declared.Configuration.{Configuration}
 use Rattle.quorum.proofs.Laws.{Stands}
 use Rattle.leader_state.specs.State.{depot_of}
-use Rattle.leader_state.specs.declared.Latest.{Latest}
-use Rattle.leader_state.specs.declared.Latest.TheVariants as latest
 use Rattle.leader_state.specs.declared.PromiseState.{PromiseState}
 use Rattle.leader_state.specs.declared.PromiseState.TheVariants.{NotPromised, Promised, PromisedHigher}
-use Rattle.leader_state.specs.declared.HeldSync.{HeldSync}
-use Rattle.leader_state.specs.declared.HeldSync.TheVariants as held
 use Rattle.messages.specs.declared.Head.{Head}
 use Rattle.messages.specs.declared.Row.{Row}
 use Rattle.messages.specs.declared.PaxosMsg.{PaxosMsg}
 use Rattle.messages.specs.declared.PaxosMsg.TheVariants.{PrepareReq, Prepare, Promise, AcceptSync, AcceptDecide, Accepted, NotAccepted, Decide, ProposalForward}
-use Rattle.messages.specs.declared.PromiseSync.{PromiseSync}
-use Rattle.messages.specs.declared.PromiseSync.TheVariants.{Nothing, From}
 use Rattle.messages.specs.declared.Event.{Event}
 use Rattle.messages.specs.declared.Event.TheVariants.{Message, Propose, Leader, Reconnect, Resend, Drain, Restart}
 use Rattle.paxos_box.specs.Box.{is_leader}
-use Rattle.paxos_box.specs.declared.AcceptedMeta.{AcceptedMeta}
-use Rattle.paxos_box.specs.declared.AcceptedMeta.TheVariants as meta
-use Rattle.paxos_box.specs.declared.CachedMessage.{CachedMessage}
-use Rattle.paxos_box.specs.declared.CachedMessage.TheVariants as cached
 use Rattle.record.specs.declared.Record.{Record}
 use Rattle.hire_book.specs.Book.{book_length, Sound}
 use Rattle.sight.specs.Sight.{head_at, queue_entries}
@@ -64,26 +58,26 @@ pub record Lengths (l : Lent) : Type 0 where
 
 -- Refusal 2 is not given: the record is whole
 
-abbrev pub SyncFit : HeldSync → List ℕ → Type 0
-SyncFit held.Nothing buffer = Unit
-SyncFit (held.Held x) buffer = (x.sync_idx + x.len ≤ max_log) × Fit buffer x.len
+abbrev pub SyncFit : Option LogSync → List ℕ → Type 0
+SyncFit None buffer = Unit
+SyncFit (Some x) buffer = (x.sync_idx + x.len ≤ max_log) × Fit buffer x.len
 
-abbrev pub LatestBelow : ℕ → Latest → Type 0
-LatestBelow len latest.Nothing = Unit
-LatestBelow len (latest.At at) = at < len
+abbrev pub LatestBelow : ℕ → Option ℕ → Type 0
+LatestBelow len None = Unit
+LatestBelow len (Some at) = at < len
 
 abbrev pub PromiseFit : Configuration → ℕ → PromiseState → Type 0
 PromiseFit c pid NotPromised = Unit
 PromiseFit c pid (Promised m) = (m.pid ≡ pid) × Known c m.n_accepted
 PromiseFit c pid PromisedHigher = Unit
 
-abbrev pub MetaFit : Configuration → ℕ → AcceptedMeta → Type 0
-MetaFit c len meta.Nothing = Unit
-MetaFit c len (meta.At a) = (a.at < len) × Known c a.n
+abbrev pub MetaFit : Configuration → ℕ → Option AcceptedAt → Type 0
+MetaFit c len None = Unit
+MetaFit c len (Some a) = (a.at < len) × Known c a.n
 
-abbrev pub CachedFit : Configuration → CachedMessage → Type 0
-CachedFit c cached.Nothing = Unit
-CachedFit c (cached.Held m) = Real c m.n × Known c m.n_accepted
+abbrev pub CachedFit : Configuration → Option CachedPromise → Type 0
+CachedFit c None = Unit
+CachedFit c (Some m) = Real c m.n × Known c m.n_accepted
 
 -- the ballots that a message names
 abbrev pub BallotsKnown : Configuration → PaxosMsg → Type 0
@@ -123,13 +117,13 @@ pub record Whole (c : Configuration) (r : Record) (row : Row) (l : Lent) : Type 
   pub apart : (i j : ℕ) → i < j → j < r.outgoing → Apart (head_at row j) (head_at row i)
   pub carried : queue_entries row r.outgoing ≤ max_store
   pub places : (pid : ℕ) → Depot c pid → PlaceFit c r pid
-  pub accepted : MetaFit c r.outgoing r.latest_accepted_meta.meta
+  pub accepted : MetaFit c r.outgoing r.latest_accepted_meta
   pub leader : is_leader r.state.role ≡ true → r.leader_state.n_leader.pid ≡ c.pid
   pub promise : Known c r.internal_storage.promise
   pub round : Known c r.internal_storage.accepted_round
   pub leads : Known c r.leader_state.n_leader
   pub best-round : Known c r.leader_state.max_promise.meta.n_accepted
-  pub message : CachedFit c r.cached_promise_message.message
+  pub message : CachedFit c r.cached_promise_message
   pub book : Sound l.book
 
 -- Refusals 3 and 4 are not given: a sender is another depot, a depot named is one, and the message is fit in every state
@@ -154,9 +148,9 @@ pub record Led (c : Configuration) (from : ℕ) (n : Ballot) (decided : ℕ) : T
   pub sender : from ≡ n.pid
   pub last : decided ≤ max_log
 
-abbrev pub Brings : PromiseSync → List ℕ → Type 0
-Brings Nothing entries = Unit
-Brings (From start) entries = (start ≤ max_log) × Fit entries (length entries)
+abbrev pub Brings : Option ℕ → List ℕ → Type 0
+Brings None entries = Unit
+Brings (Some start) entries = (start ≤ max_log) × Fit entries (length entries)
 
 abbrev pub MessageFit : Configuration → ℕ → PaxosMsg → List ℕ → Type 0
 MessageFit c from (PrepareReq m) entries = Known c m.n

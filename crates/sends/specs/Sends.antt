@@ -1,12 +1,10 @@
 -- What a box sends to one depot, and to each of several. Each function takes the box last.
-use Rattle.std.specs.Prelude.{ℕ, zero, suc, ◌+◌, ◌-◌, ◌≤◌, Bool, true, false, cond, not, List, ltb, leb, eqb, get_or}
+use Rattle.std.specs.Prelude.{ℕ, zero, suc, ◌+◌, ◌-◌, ◌≤◌, Bool, true, false, cond, not, List, ltb, leb, eqb, get_or, Option, None, Some}
 use Rattle.base.specs.Limits.{largest}
 use Rattle.leader_state.specs.declared.Depot.{Depot}
 use Rattle.leader_state.specs.declared.PromiseMetaData.{PromiseMetaData}
 use Rattle.leader_state.specs.declared.PromiseState.{PromiseState}
 use Rattle.leader_state.specs.declared.PromiseState.TheVariants.{NotPromised, Promised, PromisedHigher}
-use Rattle.leader_state.specs.declared.Latest.{Latest}
-use Rattle.leader_state.specs.declared.Latest.TheVariants.{Nothing, At}
 use Rattle.leader_state.specs.State.{depot_of, with_depot, set_latest, next_session, next_counter}
 use Rattle.leader_state.specs.Promises.{sync_start}
 use Rattle.leader_state.specs.Places.{marks}
@@ -54,7 +52,7 @@ next_session_of to s = cond (leb largest (the_depot to s).seq_num.session) (at_t
 unfoldable pub next_seq_num_of : ℕ → SequencePaxos → SequencePaxos
 next_seq_num_of to s = cond (leb largest (the_depot to s).seq_num.counter) (at_top s) (on_depot to next_counter s)
 
-abbrev pub set_latest_of : ℕ → Latest → SequencePaxos → SequencePaxos
+abbrev pub set_latest_of : ℕ → Option ℕ → SequencePaxos → SequencePaxos
 set_latest_of to l s = on_depot to (set_latest l) s
 
 -- Prepare, with how far the own log goes (R7.3)
@@ -66,7 +64,7 @@ send_prepare to s =
 
 -- send_accsync: the depot's session is raised, its counter starts at 1, and its remembered AcceptDecide is forgotten (the departure, R10.1)
 unfoldable pub new_session : ℕ → SequencePaxos → SequencePaxos
-new_session to s = set_latest_of to Nothing (next_seq_num_of to (next_session_of to s))
+new_session to s = set_latest_of to None (next_seq_num_of to (next_session_of to s))
 
 -- AcceptSync with the depot's number and all entries of the log from a place on (R7.4)
 unfoldable pub push_acc_sync : ℕ → ℕ → SequencePaxos → SequencePaxos
@@ -90,11 +88,11 @@ unfoldable pub acc_sync_to : ℕ → SequencePaxos → SequencePaxos
 acc_sync_to to s = by_promise to (the_depot to s).promise s
 
 -- the remembered AcceptDecide of a depot, where an AcceptDecide stands at its position
-abbrev pub stands : Bool → Latest → Latest
+abbrev pub stands : Bool → Option ℕ → Option ℕ
 stands true l = l
-stands false l = Nothing
+stands false l = None
 
-unfoldable pub latest_accdec : ℕ → SequencePaxos → Latest
+unfoldable pub latest_accdec : ℕ → SequencePaxos → Option ℕ
 latest_accdec to s = stands (get_or s.plan.sight.accdec (to - 1) false) (the_depot to s).latest
 
 -- entries of the log and the decided index join the AcceptDecide at a position of the queue
@@ -110,11 +108,11 @@ push_accept_decide from count to s =
 
 -- a new AcceptDecide with the next number, remembered by its position (R7.5)
 unfoldable pub new_accept_decide : ℕ → ℕ → ℕ → SequencePaxos → SequencePaxos
-new_accept_decide from count to s = push_accept_decide from count to (next_seq_num_of to (set_latest_of to (At (next_place s)) s))
+new_accept_decide from count to s = push_accept_decide from count to (next_seq_num_of to (set_latest_of to (Some (next_place s)) s))
 
-abbrev pub accept_decide_by : ℕ → ℕ → ℕ → Latest → SequencePaxos → SequencePaxos
-accept_decide_by from count to (At at) s = join_to from count to at s
-accept_decide_by from count to Nothing s = new_accept_decide from count to s
+abbrev pub accept_decide_by : ℕ → ℕ → ℕ → Option ℕ → SequencePaxos → SequencePaxos
+accept_decide_by from count to (Some at) s = join_to from count to at s
+accept_decide_by from count to None s = new_accept_decide from count to s
 
 unfoldable pub accept_decide_to : ℕ → ℕ → ℕ → SequencePaxos → SequencePaxos
 accept_decide_to from count to s = accept_decide_by from count to (latest_accdec to s) s
@@ -125,9 +123,9 @@ push_decide to s =
     (msg.Decide (record { n = s.leader_state.n_leader; seq_num = (the_depot to s).seq_num; decided_idx = s.internal_storage.decided_idx }))
     source.Nothing 0 s
 
-abbrev pub decide_by : ℕ → Latest → SequencePaxos → SequencePaxos
-decide_by to (At at) s = join_to 0 0 to at s
-decide_by to Nothing s = push_decide to (next_seq_num_of to s)
+abbrev pub decide_by : ℕ → Option ℕ → SequencePaxos → SequencePaxos
+decide_by to (Some at) s = join_to 0 0 to at s
+decide_by to None s = push_decide to (next_seq_num_of to s)
 
 -- the decided index joins the remembered AcceptDecide, else goes in a Decide with the next number (R7.6)
 unfoldable pub decide_to : ℕ → SequencePaxos → SequencePaxos

@@ -8,7 +8,7 @@ ghost use Rattle.paxos_box.specs.Room.{Room};
 ghost use Rattle.sends.specs.Sends.{suffix_length, sync_fits, next_session_of, next_seq_num_of, set_latest_of, latest_accdec, send_prepare, send_acc_sync, acc_sync_to, join_to, new_accept_decide, accept_decide_to, new_session, push_acc_sync, push_accept_decide, push_decide, decide_to, send_prepare_req, few_entries, send_one, turn_of, for_marked, peers_of};
 
 use base::LARGEST;
-use leader_state::{Latest, PromiseMetaData, PromiseState};
+use leader_state::{PromiseMetaData, PromiseState};
 use messages::{AcceptDecide, AcceptSync, Decide, PaxosMsg, Prepare, PrepareReq};
 use paxos_box::{Join, Send, Sent, SequencePaxos, Source};
 use quorum::Configuration;
@@ -75,7 +75,7 @@ fn next_seq_num(s: SequencePaxos, to: u64) -> SequencePaxos
     s.set_leader_state(l.next_seq_num(to))
 }
 
-pub fn set_latest_accept_meta(s: SequencePaxos, to: u64, latest: Latest) -> SequencePaxos
+pub fn set_latest_accept_meta(s: SequencePaxos, to: u64, latest: Option<usize>) -> SequencePaxos
     requires room { Room s }
     requires own_place { own_place to }
     ensures value { result ≡ set_latest_of to latest s }
@@ -119,7 +119,7 @@ fn new_session(s: SequencePaxos, to: u64) -> SequencePaxos
 {
     let s1 = increment_seq_num_session(s, to);
     let s2 = next_seq_num(s1, to);
-    set_latest_accept_meta(s2, to, Latest::Nothing)
+    set_latest_accept_meta(s2, to, None)
 }
 
 #[tactic(auto, unfolding(crate::specs::Sends::push_acc_sync))]
@@ -182,7 +182,7 @@ pub fn send_accsync(s: SequencePaxos, to: u64) -> SequencePaxos
 
 // The remembered AcceptDecide, where an AcceptDecide stands at its position.
 #[tactic(auto, unfolding(crate::specs::Sends::latest_accdec))]
-fn get_latest_accdec_message(s: SequencePaxos, to: u64) -> Latest
+fn get_latest_accdec_message(s: SequencePaxos, to: u64) -> Option<usize>
     requires { own_place to }
     ensures { result ≡ latest_accdec to s }
 {
@@ -195,7 +195,7 @@ fn get_latest_accdec_message(s: SequencePaxos, to: u64) -> Latest
     if on {
         return latest;
     }
-    Latest::Nothing
+    None
 }
 
 // Entries and the decided index join the AcceptDecide at a position of the queue.
@@ -249,7 +249,7 @@ fn new_acceptdecide(s: SequencePaxos, to: u64, from: usize, count: usize) -> Seq
     ensures room_2 { Room result }
 {
     let at = s.next_place();
-    let s1 = set_latest_accept_meta(s, to, Latest::At(at));
+    let s1 = set_latest_accept_meta(s, to, Some(at));
     let s2 = next_seq_num(s1, to);
     push_acceptdecide(s2, to, from, count)
 }
@@ -265,8 +265,8 @@ pub fn send_acceptdecide(s: SequencePaxos, to: u64, from: usize, count: usize) -
 {
     let latest = get_latest_accdec_message(s, to);
     match latest {
-        Latest::At(at) => join(s, to, at, from, count),
-        Latest::Nothing => new_acceptdecide(s, to, from, count),
+        Some(at) => join(s, to, at, from, count),
+        None => new_acceptdecide(s, to, from, count),
     }
 }
 
@@ -303,8 +303,8 @@ pub fn send_decide(s: SequencePaxos, to: u64) -> SequencePaxos
 {
     let latest = get_latest_accdec_message(s, to);
     match latest {
-        Latest::At(at) => join(s, to, at, 0, 0),
-        Latest::Nothing => push_decide(next_seq_num(s, to), to),
+        Some(at) => join(s, to, at, 0, 0),
+        None => push_decide(next_seq_num(s, to), to),
     }
 }
 

@@ -1,15 +1,12 @@
 -- What a step decides: the dispatch of events to their handlers; what they leave is settled as `outcome` says.
-use Rattle.std.specs.Prelude.{ℕ}
+use Rattle.std.specs.Prelude.{ℕ, Option, None, Some}
+use Rattle.leader_state.specs.declared.LogSync.{LogSync}
 use Rattle.leader_state.specs.declared.PromiseMetaData.{PromiseMetaData}
-use Rattle.leader_state.specs.declared.HeldSync.{HeldSync}
-use Rattle.leader_state.specs.declared.HeldSync.TheVariants as held
 use Rattle.messages.specs.declared.Event.{Event}
 use Rattle.messages.specs.declared.Event.TheVariants as event
 use Rattle.messages.specs.declared.PaxosMsg.{PaxosMsg}
 use Rattle.messages.specs.declared.PaxosMsg.TheVariants as msg
 use Rattle.messages.specs.declared.Promise.{Promise}
-use Rattle.messages.specs.declared.PromiseSync.{PromiseSync}
-use Rattle.messages.specs.declared.PromiseSync.TheVariants as sync
 use Rattle.paxos_box.specs.declared.SequencePaxos.{SequencePaxos}
 use Rattle.paxos_box.specs.declared.Role.{Role}
 use Rattle.paxos_box.specs.declared.Role.TheVariants.{Leader, Follower}
@@ -24,9 +21,9 @@ use Rattle.follower.specs.Follower.{handle_prepare, resend_messages_follower}
 abbrev pub report_of : Promise → ℕ → PromiseMetaData
 report_of p from = record { n_accepted = p.n_accepted; accepted_idx = p.accepted_idx; decided_idx = p.decided_idx; pid = from }
 
-abbrev pub brought_by : PromiseSync → ℕ → HeldSync
-brought_by sync.Nothing count = held.Nothing
-brought_by (sync.From start) count = held.Held (record { sync_idx = start; len = count })
+abbrev pub brought_by : Option ℕ → ℕ → Option LogSync
+brought_by None count = None
+brought_by (Some start) count = Some (record { sync_idx = start; len = count })
 
 -- a message from a depot, with so many entries
 abbrev pub handle : PaxosMsg → ℕ → ℕ → SequencePaxos → SequencePaxos

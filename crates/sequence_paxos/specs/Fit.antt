@@ -14,7 +14,7 @@ pub record Sound (s : SequencePaxos) : Type 0 where
   pub room : Room s
   pub log : s.internal_storage.accepted_idx ≤ max_log
   pub buffer : s.buffered_proposals ≤ max_buffered
-  pub cached : few_cached s.cached_promise_message.message
+  pub cached : few_cached s.cached_promise_message
 
 -- a forward has few entries
 abbrev pub few_in : PaxosMsg → ℕ → Type 0

@@ -9,17 +9,17 @@ ghost use Rattle.sequence_paxos.specs.Decide.{brought_by, handle, resend_by, tak
 ghost use Rattle.base.specs.Limits.{max_proposal};
 ghost use Rattle.sequence_paxos.specs.Fit.{Sound, few_in, fit_event};
 
-use leader_state::{HeldSync, LogSync, PromiseMetaData};
-use messages::{Event, PaxosMessage, PaxosMsg, Promise, PromiseSync};
+use leader_state::{LogSync, PromiseMetaData};
+use messages::{Event, PaxosMessage, PaxosMsg, Promise};
 use outcome::Decision;
 use paxos_box::{Role, SequencePaxos};
 
-fn brought_by(sync: PromiseSync, count: usize) -> HeldSync
+fn brought_by(sync: Option<usize>, count: usize) -> Option<LogSync>
     ensures { result ≡ brought_by sync count }
 {
     match sync {
-        PromiseSync::Nothing => HeldSync::Nothing,
-        PromiseSync::From(start) => HeldSync::Held(LogSync {
+        None => None,
+        Some(start) => Some(LogSync {
             sync_idx: start,
             len: count,
         }),

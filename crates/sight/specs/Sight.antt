@@ -1,25 +1,19 @@
 -- What deciding needs of the lists, in numbers: what stands at a remembered position of the queue, the first place of the log that a sync
 -- would change, and how many entries the queue carries.
-use Rattle.std.specs.Prelude.{ℕ, zero, suc, ◌-◌, Bool, false, cond, not, ◌&&◌, List, leb, ltb, eqb, length, get_or, take, drop}
+use Rattle.std.specs.Prelude.{ℕ, zero, suc, ◌-◌, Bool, false, cond, not, ◌&&◌, List, leb, ltb, eqb, length, get_or, take, drop, Option, None, Some}
 use Rattle.hire_book.specs.Below.{sum_below}
+use Rattle.paxos_box.specs.declared.AcceptedAt.{AcceptedAt}
+use Rattle.leader_state.specs.declared.LogSync.{LogSync}
 use Rattle.quorum.specs.declared.Configuration.{Configuration}
 use Rattle.leader_state.specs.State.{depot_of}
 use Rattle.leader_state.specs.Places.{marks}
-use Rattle.leader_state.specs.declared.Latest.{Latest}
-use Rattle.leader_state.specs.declared.Latest.TheVariants as latest
-use Rattle.leader_state.specs.declared.HeldSync.{HeldSync}
-use Rattle.leader_state.specs.declared.HeldSync.TheVariants as held
 use Rattle.messages.specs.Messages.{is_accept_decide, is_accepted, no_head}
 use Rattle.messages.specs.declared.Head.{Head}
 use Rattle.messages.specs.declared.Row.{Row}
 use Rattle.messages.specs.declared.PaxosMsg.{PaxosMsg}
 use Rattle.messages.specs.declared.PaxosMsg.TheVariants.{PrepareReq, Prepare, Promise, AcceptSync, AcceptDecide, Accepted, NotAccepted, Decide, ProposalForward}
-use Rattle.messages.specs.declared.PromiseSync.{PromiseSync}
-use Rattle.messages.specs.declared.PromiseSync.TheVariants.{Nothing, From}
 use Rattle.messages.specs.declared.Event.{Event}
 use Rattle.messages.specs.declared.Event.TheVariants as event
-use Rattle.paxos_box.specs.declared.AcceptedMeta.{AcceptedMeta}
-use Rattle.paxos_box.specs.declared.AcceptedMeta.TheVariants as meta
 use Rattle.paxos_box.specs.declared.Sight.{Sight}
 use Rattle.record.specs.declared.Record.{Record}
 
@@ -43,35 +37,35 @@ unfoldable pub first_change : List ℕ → ℕ → ℕ → List ℕ → ℕ
 first_change log len start suffix = first_from (changes_at log start suffix) 0 len
 
 -- the best promise's held sync; its entries are the first of its buffer
-abbrev pub held_change : HeldSync → List ℕ → ℕ → List ℕ → ℕ
-held_change held.Nothing log len best = len
-held_change (held.Held x) log len best = first_change log len x.sync_idx (part_of 0 x.len best)
+abbrev pub held_change : Option LogSync → List ℕ → ℕ → List ℕ → ℕ
+held_change None log len best = len
+held_change (Some x) log len best = first_change log len x.sync_idx (part_of 0 x.len best)
 
 -- where the sync that a message brings starts
-abbrev pub sync_in : PaxosMsg → PromiseSync
-sync_in (PrepareReq m) = Nothing
-sync_in (Prepare m) = Nothing
+abbrev pub sync_in : PaxosMsg → Option ℕ
+sync_in (PrepareReq m) = None
+sync_in (Prepare m) = None
 sync_in (Promise m) = m.log_sync
-sync_in (AcceptSync m) = From m.sync_idx
-sync_in (AcceptDecide m) = Nothing
-sync_in (Accepted m) = Nothing
-sync_in (NotAccepted m) = Nothing
-sync_in (Decide m) = Nothing
-sync_in ProposalForward = Nothing
+sync_in (AcceptSync m) = Some m.sync_idx
+sync_in (AcceptDecide m) = None
+sync_in (Accepted m) = None
+sync_in (NotAccepted m) = None
+sync_in (Decide m) = None
+sync_in ProposalForward = None
 
-abbrev pub brought : Event → PromiseSync
+abbrev pub brought : Event → Option ℕ
 brought (event.Message m) = sync_in m.msg
-brought event.Propose = Nothing
-brought (event.Leader n) = Nothing
-brought (event.Reconnect pid) = Nothing
-brought event.Resend = Nothing
-brought event.Drain = Nothing
-brought event.Restart = Nothing
+brought event.Propose = None
+brought (event.Leader n) = None
+brought (event.Reconnect pid) = None
+brought event.Resend = None
+brought event.Drain = None
+brought event.Restart = None
 
 -- the sync brought; its entries are those given with the event
-abbrev pub brought_change : PromiseSync → List ℕ → ℕ → List ℕ → ℕ
-brought_change Nothing log len entries = len
-brought_change (From start) log len entries = first_change log len start entries
+abbrev pub brought_change : Option ℕ → List ℕ → ℕ → List ℕ → ℕ
+brought_change None log len entries = len
+brought_change (Some start) log len entries = first_change log len start entries
 
 -- the head at a place of the row
 abbrev pub head_at : Row → ℕ → Head
@@ -84,20 +78,20 @@ accdec_at row len at = ltb at len && is_accept_decide (head_at row at).msg
 unfoldable pub accepted_at : Row → ℕ → ℕ → Bool
 accepted_at row len at = ltb at len && is_accepted (head_at row at).msg
 
-abbrev pub accdec_on : Row → ℕ → Latest → Bool
-accdec_on row len latest.Nothing = false
-accdec_on row len (latest.At at) = accdec_at row len at
+abbrev pub accdec_on : Row → ℕ → Option ℕ → Bool
+accdec_on row len None = false
+accdec_on row len (Some at) = accdec_at row len at
 
-abbrev pub accepted_on : Row → ℕ → AcceptedMeta → Bool
-accepted_on row len meta.Nothing = false
-accepted_on row len (meta.At a) = accepted_at row len a.at
+abbrev pub accepted_on : Row → ℕ → Option AcceptedAt → Bool
+accepted_on row len None = false
+accepted_on row len (Some a) = accepted_at row len a.at
 
 -- a mark for each depot's place; false at the places past the depots
 unfoldable pub accdec_marks : Configuration → Record → Row → List Bool
 accdec_marks c r row = marks c.depots (λ pid. accdec_on row r.outgoing (depot_of pid r.leader_state).latest)
 
 abbrev pub accepted_mark : Record → Row → Bool
-accepted_mark r row = accepted_on row r.outgoing r.latest_accepted_meta.meta
+accepted_mark r row = accepted_on row r.outgoing r.latest_accepted_meta
 
 -- how many entries the first messages of the row carry
 unfoldable pub queue_entries : Row → ℕ → ℕ

@@ -7,9 +7,9 @@ ghost use Rattle.base.specs.Limits.{max_depots, max_messages, max_store};
 ghost use Rattle.sight.specs.Sight.{part_of, changes_at, first_change, held_change, sync_in, brought, brought_change, accdec_at, accepted_at, accdec_on, accepted_on, accdec_marks, accepted_mark, queue_entries, sight_of};
 
 use base::MAX_MESSAGES;
-use leader_state::{HeldSync, Latest};
-use messages::{Event, PaxosMsg, PromiseSync, Row};
-use paxos_box::{AcceptedMeta, Sight};
+use leader_state::LogSync;
+use messages::{Event, PaxosMsg, Row};
+use paxos_box::{AcceptedAt, Sight};
 use quorum::Configuration;
 use record::Record;
 
@@ -68,33 +68,33 @@ pub fn first_change(log: &[u64], len: usize, start: usize, suffix: &[u64]) -> us
     len
 }
 
-pub fn held_change(sync: HeldSync, log: &[u64], len: usize, best: &[u64]) -> usize
+pub fn held_change(sync: Option<LogSync>, log: &[u64], len: usize, best: &[u64]) -> usize
     ensures { result ≡ held_change sync log.now len best.now }
 {
     match sync {
-        HeldSync::Nothing => len,
-        HeldSync::Held(x) => first_change(log, len, x.sync_idx, part(best, 0, x.len)),
+        None => len,
+        Some(x) => first_change(log, len, x.sync_idx, part(best, 0, x.len)),
     }
 }
 
-fn sync_in(m: PaxosMsg) -> PromiseSync
+fn sync_in(m: PaxosMsg) -> Option<usize>
     ensures { result ≡ sync_in m }
 {
     match m {
-        PaxosMsg::PrepareReq(_) => PromiseSync::Nothing,
-        PaxosMsg::Prepare(_) => PromiseSync::Nothing,
+        PaxosMsg::PrepareReq(_) => None,
+        PaxosMsg::Prepare(_) => None,
         PaxosMsg::Promise(p) => p.log_sync,
-        PaxosMsg::AcceptSync(a) => PromiseSync::From(a.sync_idx),
-        PaxosMsg::AcceptDecide(_) => PromiseSync::Nothing,
-        PaxosMsg::Accepted(_) => PromiseSync::Nothing,
-        PaxosMsg::NotAccepted(_) => PromiseSync::Nothing,
-        PaxosMsg::Decide(_) => PromiseSync::Nothing,
-        PaxosMsg::ProposalForward => PromiseSync::Nothing,
+        PaxosMsg::AcceptSync(a) => Some(a.sync_idx),
+        PaxosMsg::AcceptDecide(_) => None,
+        PaxosMsg::Accepted(_) => None,
+        PaxosMsg::NotAccepted(_) => None,
+        PaxosMsg::Decide(_) => None,
+        PaxosMsg::ProposalForward => None,
     }
 }
 
 // Whether an event brings a sync, and where it starts.
-pub fn brought_sync(e: Event) -> PromiseSync
+pub fn brought_sync(e: Event) -> Option<usize>
     ensures { result ≡ brought e }
 {
     match e {
@@ -102,21 +102,21 @@ pub fn brought_sync(e: Event) -> PromiseSync
             let msg = m.msg;
             sync_in(msg)
         }
-        Event::Propose => PromiseSync::Nothing,
-        Event::Leader(_) => PromiseSync::Nothing,
-        Event::Reconnect(_) => PromiseSync::Nothing,
-        Event::Resend => PromiseSync::Nothing,
-        Event::Drain => PromiseSync::Nothing,
-        Event::Restart => PromiseSync::Nothing,
+        Event::Propose => None,
+        Event::Leader(_) => None,
+        Event::Reconnect(_) => None,
+        Event::Resend => None,
+        Event::Drain => None,
+        Event::Restart => None,
     }
 }
 
-pub fn brought_change(sync: PromiseSync, log: &[u64], len: usize, entries: &[u64]) -> usize
+pub fn brought_change(sync: Option<usize>, log: &[u64], len: usize, entries: &[u64]) -> usize
     ensures { result ≡ brought_change sync log.now len entries.now }
 {
     match sync {
-        PromiseSync::Nothing => len,
-        PromiseSync::From(start) => first_change(log, len, start, entries),
+        None => len,
+        Some(start) => first_change(log, len, start, entries),
     }
 }
 
@@ -150,21 +150,21 @@ fn accepted_at(row: Row, len: usize, at: usize) -> bool
     m.is_accepted()
 }
 
-fn accdec_on(row: Row, len: usize, latest: Latest) -> bool
+fn accdec_on(row: Row, len: usize, latest: Option<usize>) -> bool
     ensures { result ≡ accdec_on row len latest }
 {
     match latest {
-        Latest::Nothing => false,
-        Latest::At(at) => accdec_at(row, len, at),
+        None => false,
+        Some(at) => accdec_at(row, len, at),
     }
 }
 
-fn accepted_on(row: Row, len: usize, meta: AcceptedMeta) -> bool
+fn accepted_on(row: Row, len: usize, meta: Option<AcceptedAt>) -> bool
     ensures { result ≡ accepted_on row len meta }
 {
     match meta {
-        AcceptedMeta::Nothing => false,
-        AcceptedMeta::At(a) => accepted_at(row, len, a.at),
+        None => false,
+        Some(a) => accepted_at(row, len, a.at),
     }
 }
 
@@ -191,9 +191,7 @@ pub fn accdec_marks(c: Configuration, r: Record, row: Row) -> [bool; 7]
 pub fn accepted_mark(r: Record, row: Row) -> bool
     ensures { result ≡ accepted_mark r row }
 {
-    let m = r.latest_accepted_meta;
-    let meta = m.meta;
-    accepted_on(row, r.outgoing, meta)
+    accepted_on(row, r.outgoing, r.latest_accepted_meta)
 }
 
 // How many entries the first `len` messages of the row carry: what a record that is not broken has fits the store.

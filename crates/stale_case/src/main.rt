@@ -3,7 +3,6 @@
 
 use ballot::Ballot;
 use cluster::Cluster;
-use leader_state::Latest;
 use messages::Event;
 use rounds::{act, drain, settle};
 use std::io;
@@ -75,7 +74,7 @@ fn remembered(c: Cluster) -> Cluster {
     let mut s = c.site(1);
     let mut node = s.node;
     let l = node.leader_state;
-    let old = l.set_latest_accept_meta(3, Latest::At(1));
+    let old = l.set_latest_accept_meta(3, Some(1));
     node.leader_state = old;
     s.node = node;
     c.with_site(1, s)

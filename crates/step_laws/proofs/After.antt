@@ -1,4 +1,5 @@
 -- What a step that is not refused leaves of the lists: their lengths, and that every entry kept is within its limit.
+use Rattle.std.specs.Prelude.{Option, None, Some}
 use Prim.Native.Nat.{ℕ, ◌+◌, ◌-◌, ◌≤◌, ◌<◌}
 use mathlib.Core.Path.{◌≡◌, sym, subst, ◌∙◌}
 use mathlib.Core.Logic.{◌⊎◌, inl, inr}
@@ -7,23 +8,15 @@ use native.Mathlib.Omega.{arith}
 use lib.ListN.{length, take, drop, length-take, length-drop}
 use lib.Seq.{get_or-drop}
 use Rattle.base.specs.Limits.{max_log, max_buffered, max_messages, max_store}
+use Rattle.paxos_box.specs.declared.CachedPromise.{CachedPromise}
 use Rattle.quorum.specs.declared.Configuration.{Configuration}
 use Rattle.leader_state.specs.declared.LogSync.{LogSync}
-use Rattle.leader_state.specs.declared.HeldSync.{HeldSync}
-use Rattle.leader_state.specs.declared.HeldSync.TheVariants as held
 use Rattle.messages.specs.declared.Event.{Event}
 use Rattle.messages.specs.declared.Row.{Row}
 use Rattle.paxos_box.specs.declared.SequencePaxos.{SequencePaxos}
 use Rattle.paxos_box.specs.declared.Send.{Send}
 use Rattle.paxos_box.specs.declared.Source.{Source}
 use Rattle.paxos_box.specs.declared.Source.TheVariants as source
-use Rattle.paxos_box.specs.declared.BestOp.{BestOp}
-use Rattle.paxos_box.specs.declared.BestOp.TheVariants as best-op
-use Rattle.paxos_box.specs.declared.BufferOp.{BufferOp}
-use Rattle.paxos_box.specs.declared.BufferOp.TheVariants as buffer-op
-use Rattle.paxos_box.specs.declared.CachedOp.{CachedOp}
-use Rattle.paxos_box.specs.declared.CachedOp.TheVariants as cached-op
-use Rattle.paxos_box.specs.declared.CachedMessage.{CachedMessage}
 use Rattle.sends.specs.Sends.{log_length}
 use Rattle.follower.specs.Follower.{count_of}
 use Rattle.record.specs.declared.Record.{Record}
@@ -59,10 +52,10 @@ fit-over n xs l h f = fit-less (put_at 0 (take n xs) l) n (0 + n) (omega arith) 
 
 -- the entries of a planned message
 source-fit :
-    (entries log buffered held : List ℕ) (found : SequencePaxos) (a : ℕ) (op : CachedOp)
+    (entries log buffered held : List ℕ) (found : SequencePaxos) (a : ℕ) (op : Option LogSync)
     → Fit log a
     → Fit buffered found.buffered_proposals
-    → (op ≡ cached-op.Keep → Fit held (count_of (sync_in found.cached_promise_message.message)))
+    → (op ≡ None → Fit held (count_of (sync_in found.cached_promise_message)))
     → (m : Send)
     → SourceFit entries found a op m
     → Every Small (entries_of (sources log entries buffered held) m)
@@ -121,17 +114,17 @@ module _ (c : Configuration) (e : Event) (entries : List ℕ) (w : World) (t : T
     unfolding buffer_of
     buffer-length = by s.plan.writes.buffer (buffer-fits c e entries w t s p o)
       where
-        by : (op : BufferOp) → w.node.buffered_proposals.len + buffer_count op ≤ max_buffered → length (buffer_after op w.node.buffered_proposals.len entries w.node.buffered_proposals.entries) ≡ max_buffered
-        by buffer-op.Keep l = h.buffered
-        by (buffer-op.Add n) l = length-put w.node.buffered_proposals.len (take n entries) w.node.buffered_proposals.entries (omega (arith, h.buffered, length-take n entries)) ∙ h.buffered
+        by : (op : Option ℕ) → w.node.buffered_proposals.len + buffer_count op ≤ max_buffered → length (buffer_after op w.node.buffered_proposals.len entries w.node.buffered_proposals.entries) ≡ max_buffered
+        by None l = h.buffered
+        by (Some n) l = length-put w.node.buffered_proposals.len (take n entries) w.node.buffered_proposals.entries (omega (arith, h.buffered, length-take n entries)) ∙ h.buffered
 
     pub buffer-fit : Fit (buffer_of entries s w) s.buffered_proposals
     unfolding buffer_of box_of
     buffer-fit = by s.plan.writes.buffer p.buffered k.buffer
       where
-        by : (op : BufferOp) → s.buffered_proposals ≤ w.node.buffered_proposals.len + buffer_count op → BufferFit entries op → Fit (buffer_after op w.node.buffered_proposals.len entries w.node.buffered_proposals.entries) s.buffered_proposals
-        by buffer-op.Keep l f = fit-less w.node.buffered_proposals.entries s.buffered_proposals w.node.buffered_proposals.len (omega arith) t.whole.buffered
-        by (buffer-op.Add n) l f =
+        by : (op : Option ℕ) → s.buffered_proposals ≤ w.node.buffered_proposals.len + buffer_count op → BufferFit entries op → Fit (buffer_after op w.node.buffered_proposals.len entries w.node.buffered_proposals.entries) s.buffered_proposals
+        by None l f = fit-less w.node.buffered_proposals.entries s.buffered_proposals w.node.buffered_proposals.len (omega arith) t.whole.buffered
+        by (Some n) l f =
             fit-less (put_at w.node.buffered_proposals.len (take n entries) w.node.buffered_proposals.entries) s.buffered_proposals (w.node.buffered_proposals.len + n) l
             (fit_written w.node.buffered_proposals.len n entries w.node.buffered_proposals.entries (omega (arith, h.buffered, t.whole.buffer)) (omega (arith, f.0)) t.whole.buffered (fit-less entries n (length entries) (omega (arith, f.0)) f.1))
 
@@ -140,20 +133,20 @@ module _ (c : Configuration) (e : Event) (entries : List ℕ) (w : World) (t : T
     unfolding best_of
     best-length = by s.plan.writes.best p.held
       where
-        by : (op : BestOp) → best_count op ≤ max_log → length (best_after op entries w.lists.best) ≡ max_log
-        by best-op.Keep l = t.lengths.best
-        by (best-op.Given n) l = length_over (take n entries) w.lists.best (omega (arith, length-take n entries, t.lengths.best)) ∙ t.lengths.best
+        by : (op : Option ℕ) → best_count op ≤ max_log → length (best_after op entries w.lists.best) ≡ max_log
+        by None l = t.lengths.best
+        by (Some n) l = length_over (take n entries) w.lists.best (omega (arith, length-take n entries, t.lengths.best)) ∙ t.lengths.best
 
     pub best-fit : SyncFit s.leader_state.max_promise.sync (best_of entries s w)
     unfolding best_of box_of put_at
     best-fit = by s.leader_state.max_promise.sync s.plan.writes.best k.best
       where
-        by : (y : HeldSync) (op : BestOp) → Best e entries w.node.leader_state.max_promise.sync y op → SyncFit y (best_after op entries w.lists.best)
-        by y op (none q) = subst (λ (z : HeldSync). SyncFit z (best_after op entries w.lists.best)) (sym q) tt
-        by y op (kept q r) = subst (λ (z : HeldSync). SyncFit z (best_after op entries w.lists.best)) (sym q) (subst (λ (z : BestOp). SyncFit w.node.leader_state.max_promise.sync (best_after z entries w.lists.best)) (sym r) t.whole.best)
+        by : (y : Option LogSync) (op : Option ℕ) → Best e entries w.node.leader_state.max_promise.sync y op → SyncFit y (best_after op entries w.lists.best)
+        by y op (none q) = subst (λ (z : Option LogSync). SyncFit z (best_after op entries w.lists.best)) (sym q) tt
+        by y op (kept q r) = subst (λ (z : Option LogSync). SyncFit z (best_after op entries w.lists.best)) (sym q) (subst (λ (z : Option ℕ). SyncFit w.node.leader_state.max_promise.sync (best_after z entries w.lists.best)) (sym r) t.whole.best)
         by y op (given x q r b l) =
-            subst (λ (z : HeldSync). SyncFit z (best_after op entries w.lists.best)) (sym q)
-            (subst (λ (z : BestOp). SyncFit (held.Held x) (best_after z entries w.lists.best)) (sym r)
+            subst (λ (z : Option LogSync). SyncFit z (best_after op entries w.lists.best)) (sym q)
+            (subst (λ (z : Option ℕ). SyncFit (Some x) (best_after z entries w.lists.best)) (sym r)
             (l, fit-over x.len entries w.lists.best (omega (arith, b.count)) (fit-less entries x.len (length entries) (omega (arith, b.count)) b.fit)))
 
     -- the cached promise's sync
@@ -161,44 +154,44 @@ module _ (c : Configuration) (e : Event) (entries : List ℕ) (w : World) (t : T
     unfolding cached_of
     cached-length = by s.plan.writes.cached
       where
-        by : (op : CachedOp) → length (cached_after op (log_of entries s w) w.lists.cached) ≡ max_log
-        by cached-op.Keep = t.lengths.cached
-        by (cached-op.FromLog x) =
+        by : (op : Option LogSync) → length (cached_after op (log_of entries s w) w.lists.cached) ≡ max_log
+        by None = t.lengths.cached
+        by (Some x) =
             let part = take x.len (drop x.sync_idx (log_of entries s w)) in
             length_over part w.lists.cached (omega (arith, length-take x.len (drop x.sync_idx (log_of entries s w)), length-drop x.sync_idx (log_of entries s w), log-length, t.lengths.cached)) ∙ t.lengths.cached
 
-    pub cached-fit : SyncFit (sync_in s.cached_promise_message.message) (cached_of entries s w)
+    pub cached-fit : SyncFit (sync_in s.cached_promise_message) (cached_of entries s w)
     unfolding cached_of box_of put_at
-    cached-fit = by s.cached_promise_message.message s.plan.writes.cached k.cached
+    cached-fit = by s.cached_promise_message s.plan.writes.cached k.cached
       where
         log : List ℕ
         log = log_of entries s w
 
-        part : (x : LogSync) → Tells (log_length s) (held.Held x) → SyncFit (held.Held x) (cached_after (cached-op.FromLog x) (log_of entries s w) w.lists.cached)
+        part : (x : LogSync) → Tells (log_length s) (Some x) → SyncFit (Some x) (cached_after (Some x) (log_of entries s w) w.lists.cached)
         part x f = from (rw (← f.0) at (suffix-in (log_length s) x.sync_idx))
           where
-            from : (x.sync_idx + x.len ≤ log_length s) ⊎ (x.len ≡ 0) → SyncFit (held.Held x) (cached_after (cached-op.FromLog x) (log_of entries s w) w.lists.cached)
+            from : (x.sync_idx + x.len ≤ log_length s) ⊎ (x.len ≡ 0) → SyncFit (Some x) (cached_after (Some x) (log_of entries s w) w.lists.cached)
             from (inl l) =
                 (omega (arith, o.log), fit-over x.len (drop x.sync_idx (log_of entries s w)) w.lists.cached (omega (arith, length-drop x.sync_idx (log_of entries s w), log-length, o.log)) (λ i m. rw (get_or-drop x.sync_idx (log_of entries s w) i 0) (log-fit (x.sync_idx + i) (omega arith))))
             from (inr l) = (omega (arith, f.1), λ i m. absurd (omega arith))
 
-        by : (m : CachedMessage) (op : CachedOp) → Cache 7 (log_length s) w.node.cached_promise_message.message m op → SyncFit (sync_in m) (cached_after op (log_of entries s w) w.lists.cached)
-        by m op (none q r) = subst (λ (z : HeldSync). SyncFit z (cached_after op (log_of entries s w) w.lists.cached)) (sym q) tt
+        by : (m : Option CachedPromise) (op : Option LogSync) → Cache 7 (log_length s) w.node.cached_promise_message m op → SyncFit (sync_in m) (cached_after op (log_of entries s w) w.lists.cached)
+        by m op (none q r) = subst (λ (z : Option LogSync). SyncFit z (cached_after op (log_of entries s w) w.lists.cached)) (sym q) tt
         by m op (kept q r) =
-            subst (λ (z : CachedMessage). SyncFit (sync_in z) (cached_after op (log_of entries s w) w.lists.cached)) (sym q)
-            (subst (λ (z : CachedOp). SyncFit (sync_in w.node.cached_promise_message.message) (cached_after z (log_of entries s w) w.lists.cached)) (sym r) t.whole.cached)
+            subst (λ (z : Option CachedPromise). SyncFit (sync_in z) (cached_after op (log_of entries s w) w.lists.cached)) (sym q)
+            (subst (λ (z : Option LogSync). SyncFit (sync_in w.node.cached_promise_message) (cached_after z (log_of entries s w) w.lists.cached)) (sym r) t.whole.cached)
         by m op (told x z q r f) =
-            subst (λ (z : HeldSync). SyncFit z (cached_after op (log_of entries s w) w.lists.cached)) (sym q)
-            (subst (λ (z : CachedOp). SyncFit (held.Held x) (cached_after z (log_of entries s w) w.lists.cached)) (sym r) (part x f))
+            subst (λ (z : Option LogSync). SyncFit z (cached_after op (log_of entries s w) w.lists.cached)) (sym q)
+            (subst (λ (z : Option LogSync). SyncFit (Some x) (cached_after z (log_of entries s w) w.lists.cached)) (sym r) (part x f))
 
     -- the cached promise's buffer, where nothing is written to it
-    cached-kept : s.plan.writes.cached ≡ cached-op.Keep → Fit (cached_of entries s w) (count_of (sync_in w.node.cached_promise_message.message))
+    cached-kept : s.plan.writes.cached ≡ None → Fit (cached_of entries s w) (count_of (sync_in w.node.cached_promise_message))
     unfolding cached_of
-    cached-kept q = subst (λ (z : CachedOp). Fit (cached_after z (log_of entries s w) w.lists.cached) (count_of (sync_in w.node.cached_promise_message.message))) (sym q) (by (sync_in w.node.cached_promise_message.message) t.whole.cached)
+    cached-kept q = subst (λ (z : Option LogSync). Fit (cached_after z (log_of entries s w) w.lists.cached) (count_of (sync_in w.node.cached_promise_message))) (sym q) (by (sync_in w.node.cached_promise_message) t.whole.cached)
       where
-        by : (y : HeldSync) → SyncFit y w.lists.cached → Fit w.lists.cached (count_of y)
-        by held.Nothing f = λ i l. absurd (omega arith)
-        by (held.Held x) f = f.1
+        by : (y : Option LogSync) → SyncFit y w.lists.cached → Fit w.lists.cached (count_of y)
+        by None f = λ i l. absurd (omega arith)
+        by (Some x) f = f.1
 
     -- every message that waits
     pub messages-fit : Named c 7 s → (j : ℕ) → j < w.node.outgoing + s.plan.sends.messages → HeadFit c (queue_of entries s w).store (head_at (queue_of entries s w).row j)

@@ -1,4 +1,5 @@
 -- A step leaves the places of the log below the decided index that it found.
+use Rattle.std.specs.Prelude.{Option}
 use Prim.Native.Nat.{ℕ, ◌+◌, ◌-◌, ◌≤◌, ◌<◌}
 use mathlib.Core.Path.{◌≡◌, refl, ap, sym, ◌∙◌}
 use mathlib.Core.Bool.{Bool, true, false, not}
@@ -8,10 +9,9 @@ use lib.Dec.{ltb, eqb}
 use lib.ListN.{length, take, drop, get_or, length-take}
 use lib.Seq.{get_or-take, get_or-drop, ext_get_or, length-take-le, take_all}
 use borrow.Author.Tests.{ltb-true, ltb-false, le-leb, eqb-true, not-false}
+use Rattle.leader_state.specs.declared.LogSync.{LogSync}
 use Rattle.quorum.specs.declared.Configuration.{Configuration}
-use Rattle.leader_state.specs.declared.HeldSync.{HeldSync}
 use Rattle.messages.specs.declared.Event.{Event}
-use Rattle.messages.specs.declared.PromiseSync.{PromiseSync}
 use Rattle.paxos_box.specs.declared.SequencePaxos.{SequencePaxos}
 use Rattle.paxos_box.specs.declared.LogOp.{LogOp}
 use Rattle.paxos_box.specs.declared.LogOp.TheVariants as log
@@ -82,13 +82,13 @@ module _ (c : Configuration) (e : Event) (entries : List ℕ) (w : World) (t : T
       let len = w.node.internal_storage.accepted_idx in
       let old = w.node.internal_storage.decided_idx in
       let all : take x.len entries ≡ entries = take_all x.len entries (omega (arith, o.0.count)) in
-      let sight : brought_change (brought e) l len entries ≡ first_change l len x.sync_idx entries = ap (λ (y : PromiseSync). brought_change y l len entries) o.0.start in
+      let sight : brought_change (brought e) l len entries ≡ first_change l len x.sync_idx entries = ap (λ (y : Option ℕ). brought_change y l len entries) o.0.start in
       rw all (put-stays x.sync_idx old entries l (omega (arith, o.0.count)) (omega (arith, t.whole.decided, t.whole.ends, t.lengths.log)) (before-change l len x.sync_idx entries old (omega (arith, o.2, sight))))
   op-stays (log.PutHeld x) h o =
       let l = w.lists.log in
       let len = w.node.internal_storage.accepted_idx in
       let old = w.node.internal_storage.decided_idx in
-      let sight : held_change w.node.leader_state.max_promise.sync l len w.lists.best ≡ first_change l len x.sync_idx (take x.len w.lists.best) = ap (λ (y : HeldSync). held_change y l len w.lists.best) o.0 in
+      let sight : held_change w.node.leader_state.max_promise.sync l len w.lists.best ≡ first_change l len x.sync_idx (take x.len w.lists.best) = ap (λ (y : Option LogSync). held_change y l len w.lists.best) o.0 in
       put-stays x.sync_idx old (take x.len w.lists.best) l (omega (arith, length-take x.len w.lists.best)) (omega (arith, t.whole.decided, t.whole.ends, t.lengths.log)) (before-change l len x.sync_idx (take x.len w.lists.best) old (omega (arith, o.2, sight)))
 
   pub log-stays : (s : SequencePaxos) → Planned c e entries (found c e entries w) 7 s → Fits s → take w.node.internal_storage.decided_idx (log_of entries s w) ≡ take w.node.internal_storage.decided_idx w.lists.log

@@ -1,4 +1,5 @@
 -- A closed fact along every event but a drain and a restart.
+use Rattle.std.specs.Prelude.{Option, None, Some}
 use Prim.Native.Nat.{ℕ}
 use mathlib.Core.Path.{◌≡◌, refl}
 use mathlib.Core.Bool.{Bool, true, false, cond}
@@ -14,8 +15,6 @@ use Rattle.messages.specs.declared.Event.{Event}
 use Rattle.messages.specs.declared.Event.TheVariants as event
 use Rattle.messages.specs.declared.PaxosMsg.{PaxosMsg}
 use Rattle.messages.specs.declared.PaxosMsg.TheVariants as msg
-use Rattle.messages.specs.declared.PromiseSync.{PromiseSync}
-use Rattle.messages.specs.declared.PromiseSync.TheVariants as sync
 use Rattle.paxos_box.specs.declared.SequencePaxos.{SequencePaxos}
 use Rattle.paxos_box.specs.declared.Role.{Role}
 use Rattle.paxos_box.specs.declared.Role.TheVariants.{Leader, Follower}
@@ -36,9 +35,9 @@ real c n d = (by (eqb n.n 0) (eqb n.priority 0), d)
     by true false = refl
     by false b = refl
 
-pub arrives : (e : Event) (entries : List ℕ) (x : PromiseSync) → brought e ≡ x → Brings x entries → Arrives e entries (brought_by x (length entries))
-arrives e entries sync.Nothing p b = tt
-arrives e entries (sync.From start) p b = record { start = p; count = refl; fit = b.1 }
+pub arrives : (e : Event) (entries : List ℕ) (x : Option ℕ) → brought e ≡ x → Brings x entries → Arrives e entries (brought_by x (length entries))
+arrives e entries None p b = tt
+arrives e entries (Some start) p b = record { start = p; count = refl; fit = b.1 }
 
 -- the events that leave the queue as it is or add to it
 abbrev pub Queues : Event → Type 0

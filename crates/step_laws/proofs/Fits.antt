@@ -1,4 +1,5 @@
 -- What refusals 1 to 4 leave is what deciding asks of a box and an event; and what a step that is not refused decides can be written.
+use Rattle.std.specs.Prelude.{Option, None, Some}
 use Prim.Native.Nat.{ℕ, ◌+◌, ◌≤◌}
 use mathlib.Core.Path.{◌≡◌, refl, ap}
 use mathlib.Core.Logic.{◌⊎◌, inl, inr}
@@ -7,10 +8,10 @@ use mathlib.Core.List.{List}
 use native.Mathlib.Omega.{arith}
 use lib.ListN.{length, take}
 use Rattle.base.specs.Limits.{max_log, max_buffered}
+use Rattle.paxos_box.specs.declared.CachedPromise.{CachedPromise}
+use Rattle.leader_state.specs.declared.LogSync.{LogSync}
 use Rattle.quorum.specs.declared.Configuration.{Configuration}
 use Rattle.quorum.proofs.Laws.{Stands}
-use Rattle.leader_state.specs.declared.HeldSync.{HeldSync}
-use Rattle.leader_state.specs.declared.HeldSync.TheVariants as held
 use Rattle.leader_state.specs.State.{own_place}
 use Rattle.messages.specs.declared.Row.{Row}
 use Rattle.messages.specs.declared.Event.{Event}
@@ -19,8 +20,6 @@ use Rattle.messages.specs.declared.PaxosMsg.{PaxosMsg}
 use Rattle.messages.specs.declared.PaxosMsg.TheVariants as msg
 use Rattle.paxos_box.specs.declared.SequencePaxos.{SequencePaxos}
 use Rattle.paxos_box.specs.declared.Outgoing.{Outgoing}
-use Rattle.paxos_box.specs.declared.CachedMessage.{CachedMessage}
-use Rattle.paxos_box.specs.declared.CachedMessage.TheVariants as cached
 use Rattle.follower.specs.Follower.{count_of, few_cached}
 use Rattle.outcome.specs.Outcome.{drained, restarted, outcome_refusal}
 use Rattle.sequence_paxos.specs.Decide.{taken}
@@ -44,13 +43,13 @@ use Rattle.step_laws.proofs.Written.{Planned, planned-closed}
 use Rattle.step_laws.proofs.Queue.{carried-found}
 use Rattle.step_laws.proofs.Log.{fit-op, fit-log, none_first}
 
-few : (m : CachedMessage) (buffer : List ℕ) → SyncFit (sync_in m) buffer → few_cached m
-few cached.Nothing buffer f = tt
-few (cached.Held p) buffer f = of p.sync f
+few : (m : Option CachedPromise) (buffer : List ℕ) → SyncFit (sync_in m) buffer → few_cached m
+few None buffer f = tt
+few (Some p) buffer f = of p.sync f
   where
-    of : (x : HeldSync) → SyncFit x buffer → count_of x ≤ 1024
-    of held.Nothing g = omega arith
-    of (held.Held x) g = omega (arith, g.0)
+    of : (x : Option LogSync) → SyncFit x buffer → count_of x ≤ 1024
+    of None g = omega arith
+    of (Some x) g = omega (arith, g.0)
 
 place : (c : Configuration) (pid : ℕ) → Stands c → Depot c pid → own_place pid
 place c pid s d = (d.0, omega (arith, d.1, s.most))
@@ -82,7 +81,7 @@ sound c r row l e entries t = (
     room = room c r row l (sight_of c r row e l.log l.best entries) t.stands t.whole;
     log = t.whole.ends;
     buffer = t.whole.buffer;
-    cached = few r.cached_promise_message.message l.cached t.whole.cached;
+    cached = few r.cached_promise_message l.cached t.whole.cached;
   },
   fit-event c e entries t.stands t.event,
 )

@@ -1,4 +1,5 @@
 -- A closed fact along each handler of a follower.
+use Rattle.std.specs.Prelude.{Option, None, Some}
 use Prim.Native.Nat.{ℕ, ◌+◌, ◌≤◌, min}
 use mathlib.Core.Path.{◌≡◌, refl}
 use mathlib.Core.Bool.{false, cond}
@@ -9,26 +10,22 @@ use lib.ListN.{length}
 use borrow.Author.Tests.{ltb-true}
 use Rattle.base.specs.Limits.{max_log}
 use Rattle.ballot.specs.Ballot.{compare_of, above, same}
+use Rattle.paxos_box.specs.declared.AcceptedAt.{AcceptedAt}
+use Rattle.paxos_box.specs.declared.CachedPromise.{CachedPromise}
+use Rattle.leader_state.specs.declared.LogSync.{LogSync}
 use Rattle.ballot.specs.declared.Ballot.{Ballot}
-use Rattle.ballot.specs.declared.Order.{Order}
-use Rattle.ballot.specs.declared.Order.TheVariants.{Less, Equal, Greater}
+use Rattle.std.specs.declared.cmp.Ordering.{Ordering}
+use Rattle.std.specs.declared.cmp.Ordering.TheVariants.{Less, Equal, Greater}
 use Rattle.sequence.specs.Sequence.{first, status_of}
 use Rattle.sequence.specs.declared.SequenceNumber.{SequenceNumber}
 use Rattle.sequence.specs.declared.MessageStatus.{MessageStatus}
 use Rattle.sequence.specs.declared.MessageStatus.TheVariants.{Expected, DroppedPreceding, Outdated}
 use Rattle.quorum.specs.declared.Configuration.{Configuration}
-use Rattle.leader_state.specs.declared.HeldSync.{HeldSync}
-use Rattle.leader_state.specs.declared.HeldSync.TheVariants.{Nothing, Held}
 use Rattle.messages.specs.declared.Event.{Event}
 use Rattle.messages.specs.declared.Prepare.{Prepare}
 use Rattle.messages.specs.declared.AcceptSync.{AcceptSync}
 use Rattle.paxos_box.specs.declared.SequencePaxos.{SequencePaxos}
-use Rattle.paxos_box.specs.declared.CachedMessage.{CachedMessage}
-use Rattle.paxos_box.specs.declared.CachedMessage.TheVariants as cached
-use Rattle.paxos_box.specs.declared.AcceptedMeta.{AcceptedMeta}
-use Rattle.paxos_box.specs.declared.AcceptedMeta.TheVariants as meta
 use Rattle.paxos_box.specs.declared.LogOp.TheVariants.{PutGiven}
-use Rattle.paxos_box.specs.declared.BufferOp.TheVariants as buffer-op
 use Rattle.paxos_box.specs.declared.Role.TheVariants as role
 use Rattle.paxos_box.specs.declared.Phase.{Phase}
 use Rattle.paxos_box.specs.declared.Phase.TheVariants as phase
@@ -55,8 +52,8 @@ tells prep s d a =
     let P = Tells (log_length s) in
     either P (above s.internal_storage.accepted_round prep.n_accepted) (log_from prep.decided_idx s) _
     (λ x. (refl, d))
-    (λ x. either P (same s.internal_storage.accepted_round prep.n_accepted) _ Nothing
-    (λ y. either P (ltb prep.accepted_idx (log_length s)) (log_from prep.accepted_idx s) Nothing (λ z. (refl, a)) (λ z. tt))
+    (λ x. either P (same s.internal_storage.accepted_round prep.n_accepted) _ None
+    (λ y. either P (ltb prep.accepted_idx (log_length s)) (log_from prep.accepted_idx s) None (λ z. (refl, a)) (λ z. tt))
     (λ y. tt))
 
 module _ (c : Configuration) (e : Event) (entries : List ℕ) (s : SequencePaxos) (I : ℕ → SequencePaxos → Type 0) (o : Closed c e entries s I) (f : Found c s) (i : I 0 s) where
@@ -76,7 +73,7 @@ module _ (c : Configuration) (e : Event) (entries : List ℕ) (s : SequencePaxos
       (λ a. o.more 1 7 _ (omega arith) (o.sends-request 0 pid (left_leader pid s) (omega arith) (along-left pid)))
 
   -- Prepare
-  along-tell : (n : Ballot) (to : ℕ) (x : HeldSync) → Real c n → Tells (log_length s) x → I 7 (tell_promise to x (promise_to n s))
+  along-tell : (n : Ballot) (to : ℕ) (x : Option LogSync) → Real c n → Tells (log_length s) x → I 7 (tell_promise to x (promise_to n s))
   unfolding tell_promise promise_to sync_fits
   along-tell n to x real w = by x w
     where
@@ -86,15 +83,15 @@ module _ (c : Configuration) (e : Event) (entries : List ℕ) (s : SequencePaxos
       j : I 0 t
       j = o.number 0 first _ (o.follow 0 phase.Prepare (set_promised n s) (o.promises 0 n s real i))
 
-      told : (x : HeldSync) (r : SequencePaxos) → Tells (log_length r) x → r.internal_storage.promise ≡ n → Unwritten r.plan.writes → I 0 r → I 7 (send_promise to (promise_of x r) (log_source x) (cache_promise x r))
+      told : (x : Option LogSync) (r : SequencePaxos) → Tells (log_length r) x → r.internal_storage.promise ≡ n → Unwritten r.plan.writes → I 0 r → I 7 (send_promise to (promise_of x r) (log_source x) (cache_promise x r))
       told x r w p u k = o.more 1 7 _ (omega arith) (o.tells-promise to x r w (rw p real.0) u k)
 
-      by : (x : HeldSync) → Tells (log_length s) x → I 7 (send_promise to (promise_of x t) (log_source x) (cache_promise x (build_fits x t)))
-      by (Held y) w =
-          either (λ (r : SequencePaxos). I 7 (send_promise to (promise_of (Held y) t) (log_source (Held y)) (cache_promise (Held y) r))) (ltb (log_length t) y.sync_idx) (unfit t) t
-          (λ a. told (Held y) (unfit t) w refl f.writes (o.not-fit 0 t j))
-          (λ a. told (Held y) t w refl f.writes j)
-      by Nothing w = told Nothing t w refl f.writes j
+      by : (x : Option LogSync) → Tells (log_length s) x → I 7 (send_promise to (promise_of x t) (log_source x) (cache_promise x (build_fits x t)))
+      by (Some y) w =
+          either (λ (r : SequencePaxos). I 7 (send_promise to (promise_of (Some y) t) (log_source (Some y)) (cache_promise (Some y) r))) (ltb (log_length t) y.sync_idx) (unfit t) t
+          (λ a. told (Some y) (unfit t) w refl f.writes (o.not-fit 0 t j))
+          (λ a. told (Some y) t w refl f.writes j)
+      by None w = told None t w refl f.writes j
 
   along-prepare-taken : (prep : Prepare) (from : ℕ) → Reports c prep.n prep.n_accepted prep.decided_idx prep.accepted_idx → I 7 (prepare_taken prep from s)
   unfolding prepare_taken
@@ -114,13 +111,13 @@ module _ (c : Configuration) (e : Event) (entries : List ℕ) (s : SequencePaxos
   along-ballot : (n : Ballot) (taken : SequencePaxos) → I 7 taken → I 7 (if_valid_ballot n taken s)
   along-ballot n taken x = by (compare_of s.internal_storage.promise n)
     where
-      by : (p : Order) → I 7 (by_ballot p n taken s)
+      by : (p : Ordering) → I 7 (by_ballot p n taken s)
       by Equal = x
       by Greater = o.more 1 7 _ (omega arith) (o.tells-higher 0 n s (omega arith) i)
       by Less = along-reconnected n.pid
 
   -- AcceptSync
-  along-forward-buffered : (u : SequencePaxos) → u.plan.writes.buffer ≡ buffer-op.Keep → u.buffered_proposals ≡ s.buffered_proposals → I 0 u → I 1 (forward_buffered u)
+  along-forward-buffered : (u : SequencePaxos) → u.plan.writes.buffer ≡ None → u.buffered_proposals ≡ s.buffered_proposals → I 0 u → I 1 (forward_buffered u)
   unfolding forward_buffered
   along-forward-buffered u w b j =
       either (I 1) (eqb u.buffered_proposals 0) u (cond (has_leader u) (push_forward Buffered u.buffered_proposals (set_buffered 0 u)) u)
@@ -135,7 +132,7 @@ module _ (c : Configuration) (e : Event) (entries : List ℕ) (s : SequencePaxos
     along-put a =
         let x = given_sync m (length entries) in
         let p = put-fits x s.plan.sight.brought_change m.decided_idx s a in
-        let t = set_cached cached.Nothing s in
+        let t = set_cached None s in
         along-forward-buffered (sync_log m.n m.decided_idx (sync_end x) (PutGiven x) t) f.writes.buffer refl
         (o.puts-given m.n m.decided_idx m.decided_idx x t f.writes real g p p.brought (o.forgets-cached s i))
 
@@ -184,9 +181,9 @@ module _ (c : Configuration) (e : Event) (entries : List ℕ) (s : SequencePaxos
   unfolding reply_accepted
   along-reply n idx t real j = o.more 1 7 _ (omega arith) (by (latest_accepted n t))
     where
-      by : (x : AcceptedMeta) → I 1 (reply_by x n idx t)
-      by (meta.At x) = o.raises-accepted 0 n x.at idx t (omega arith) j
-      by meta.Nothing = o.sends-accepted 0 n idx n.pid t (omega arith) real j
+      by : (x : Option AcceptedAt) → I 1 (reply_by x n idx t)
+      by (Some x) = o.raises-accepted 0 n x.at idx t (omega arith) j
+      by None = o.sends-accepted 0 n idx n.pid t (omega arith) real j
 
   -- AcceptDecide
   along-acceptdecide-taken : (n : Ballot) (q : SequenceNumber) (decided : ℕ) → Real c n → Fit entries (length entries) → I 7 (acceptdecide_taken n decided (length entries) (set_seq q s))
@@ -242,12 +239,12 @@ module _ (c : Configuration) (e : Event) (entries : List ℕ) (s : SequencePaxos
       asked : (t : SequencePaxos) → I 0 t → I 7 (resend_in phase.Recover t)
       asked t j = along-marked c e entries s I o (peers_of t.config) each.PrepareReq t f.depots tt j
 
-      again : (x : CachedMessage) → s.cached_promise_message.message ≡ x → I 7 (resend_cached x s)
-      again (cached.Held p) h = o.more 1 7 _ (omega arith) (o.tells-again p.n.pid p s h f.writes i)
-      again cached.Nothing h = asked (recovering s) (o.follow 0 phase.Recover s i)
+      again : (x : Option CachedPromise) → s.cached_promise_message ≡ x → I 7 (resend_cached x s)
+      again (Some p) h = o.more 1 7 _ (omega arith) (o.tells-again p.n.pid p s h f.writes i)
+      again None h = asked (recovering s) (o.follow 0 phase.Recover s i)
 
       by : (p : Phase) → I 7 (resend_in p s)
-      by phase.Prepare = again s.cached_promise_message.message refl
+      by phase.Prepare = again s.cached_promise_message refl
       by phase.Recover = asked s i
       by phase.Accept = stay 7
       by phase.None = stay 7

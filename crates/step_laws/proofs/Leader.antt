@@ -1,4 +1,5 @@
 -- A closed fact along each handler of a leader.
+use Rattle.std.specs.Prelude.{Option, None, Some}
 use Prim.Native.Nat.{ℕ, ◌≤◌}
 use mathlib.Core.Path.{◌≡◌, refl, ap, ◌∙◌}
 use mathlib.Core.Bool.{Bool, true, false, cond}
@@ -12,11 +13,8 @@ use Rattle.ballot.specs.declared.Ballot.{Ballot}
 use Rattle.ballot.proofs.Laws.{same-eq}
 use Rattle.quorum.specs.declared.Configuration.{Configuration}
 use Rattle.leader_state.specs.declared.LogSync.{LogSync}
-use Rattle.leader_state.specs.declared.HeldSync.{HeldSync}
-use Rattle.leader_state.specs.declared.HeldSync.TheVariants.{Nothing, Held}
 use Rattle.leader_state.specs.declared.PromiseMetaData.{PromiseMetaData}
 use Rattle.leader_state.specs.declared.PromiseState.TheVariants.{NotPromised, PromisedHigher}
-use Rattle.leader_state.specs.declared.Latest.TheVariants as latest
 use Rattle.leader_state.specs.State.{with_of, set_accepted, set_promise_state, set_latest}
 use Rattle.leader_state.specs.Promises.{beats_best, max_decided}
 use Rattle.leader_state.specs.Places.{promised_followers, preparable_peers}
@@ -29,7 +27,6 @@ use Rattle.paxos_box.specs.declared.Standing.{Standing}
 use Rattle.paxos_box.specs.declared.Standing.TheVariants.{LeaderPrepare, LeaderAccept, FollowerPrepare, FollowerAccept, Other}
 use Rattle.paxos_box.specs.declared.LogOp.{LogOp}
 use Rattle.paxos_box.specs.declared.LogOp.TheVariants.{Keep}
-use Rattle.paxos_box.specs.declared.BufferOp.TheVariants as buffer-op
 use Rattle.paxos_box.specs.declared.Source.TheVariants.{Given}
 use Rattle.paxos_box.specs.Box.{unfit, with_state, with_leader, set_decided, is_leader, standing_of}
 use Rattle.sends.specs.declared.Each.TheVariants as each
@@ -45,22 +42,22 @@ use Rattle.step_laws.proofs.Moves.{Brought, Holds, Closed, Found}
 use Rattle.step_laws.proofs.Sends.{mild-forget, mild-accepted, mild-promise, along-sync-to, along-marked}
 
 -- the sync of the best promise: the one brought, where this Promise beats the best, else the one that is held
-abbrev pub BestSync : Event → List ℕ → SequencePaxos → HeldSync → Bool → Type 0
+abbrev pub BestSync : Event → List ℕ → SequencePaxos → Option LogSync → Bool → Type 0
 BestSync e entries found y true = Holds e entries y
 BestSync e entries found y false = found.leader_state.max_promise.sync ≡ y
 
-best-sync : (e : Event) (entries : List ℕ) (found : SequencePaxos) (m : PromiseMetaData) (x : HeldSync) (b : Bool) → Holds e entries x → BestSync e entries found (cond b (record { meta = m; sync = x }) found.leader_state.max_promise).sync b
+best-sync : (e : Event) (entries : List ℕ) (found : SequencePaxos) (m : PromiseMetaData) (x : Option LogSync) (b : Bool) → Holds e entries x → BestSync e entries found (cond b (record { meta = m; sync = x }) found.leader_state.max_promise).sync b
 best-sync e entries found m x true h = h
 best-sync e entries found m x false h = refl
 
 -- the sync of a Promise as it arrives
-abbrev pub Arrives : Event → List ℕ → HeldSync → Type 0
-Arrives e entries Nothing = Unit {0}
-Arrives e entries (Held x) = Brought e entries x
+abbrev pub Arrives : Event → List ℕ → Option LogSync → Type 0
+Arrives e entries None = Unit {0}
+Arrives e entries (Some x) = Brought e entries x
 
-holds : (e : Event) (entries : List ℕ) (x : HeldSync) → Arrives e entries x → brings_past x ≡ false → Holds e entries x
-holds e entries Nothing a b = tt
-holds e entries (Held x) a b = (a, ends-within x b)
+holds : (e : Event) (entries : List ℕ) (x : Option LogSync) → Arrives e entries x → brings_past x ≡ false → Holds e entries x
+holds e entries None a b = tt
+holds e entries (Some x) a b = (a, ends-within x b)
 
 module _ (c : Configuration) (e : Event) (entries : List ℕ) (s : SequencePaxos) (I : ℕ → SequencePaxos → Type 0) (o : Closed c e entries s I) (f : Found c s) (i : I 0 s) where
   stay : (k : ℕ) → I k s
@@ -92,8 +89,8 @@ module _ (c : Configuration) (e : Event) (entries : List ℕ) (s : SequencePaxos
   along-again from d =
       let t = on_depot from (set_promise_state NotPromised) s in
       let j = o.changes-place 0 from (set_promise_state NotPromised) s d (mild-promise NotPromised refl) i in
-      let u = set_latest_of from latest.Nothing t in
-      o.more 1 7 _ (omega arith) (o.sends-prepare 0 from u (omega arith) (o.changes-place 0 from (set_latest latest.Nothing) t d mild-forget j))
+      let u = set_latest_of from None t in
+      o.more 1 7 _ (omega arith) (o.sends-prepare 0 from u (omega arith) (o.changes-place 0 from (set_latest None) t d mild-forget j))
 
   pub along-prepare-req : (n : Ballot) (from : ℕ) → Depot c from → I 7 (handle_prepare_req n from s)
   unfolding handle_prepare_req
@@ -138,7 +135,7 @@ module _ (c : Configuration) (e : Event) (entries : List ℕ) (s : SequencePaxos
     pub holds-here : I 0 (sync_taken u)
     pub role : is_leader u.state.role ≡ true
     pub kept : u.plan.writes.buffered ≡ 0
-    pub buffer : u.plan.writes.buffer ≡ buffer-op.Keep
+    pub buffer : u.plan.writes.buffer ≡ None
     pub waits : u.buffered_proposals ≡ s.buffered_proposals
 
   ready-all : (u : SequencePaxos) → Ready u → I 7 (for_followers each.AcceptSync (own_accepted (with_state (record { role = Leader; phase = phase.Accept }) (append_buffered (sync_taken u)))))
@@ -149,7 +146,7 @@ module _ (c : Configuration) (e : Event) (entries : List ℕ) (s : SequencePaxos
       let j = o.lead-on 0 t r.role (o.joins-buffered (sync_taken u) r.kept r.buffer r.waits r.holds-here) in
       along-marked c e entries s I o (promised_followers v.config.depots (own_accepted v).leader_state) each.AcceptSync (own_accepted v) f.depots tt (along-own 0 v j)
 
-  module _ (m : PromiseMetaData) (x : HeldSync) (d : Depot c m.pid) (known : Known c m.n_accepted) (real : Real c s.leader_state.n_leader) (role : is_leader s.state.role ≡ true) (h : Holds e entries x) where
+  module _ (m : PromiseMetaData) (x : Option LogSync) (d : Depot c m.pid) (known : Known c m.n_accepted) (real : Real c s.leader_state.n_leader) (role : is_leader s.state.role ≡ true) (h : Holds e entries x) where
     ready-not : Ready (unfit (keep_promise m x true s))
     ready-not =
         record {
@@ -168,7 +165,7 @@ module _ (c : Configuration) (e : Event) (entries : List ℕ) (s : SequencePaxos
         (λ a. ready-not)
         (λ a. record { holds-here = g (ltb-false end highest a); role = role; kept = f.writes.buffered; buffer = f.writes.buffer; waits = refl })
 
-    ready_held : (y : LogSync) (b : Bool) (highest : ℕ) → BestSync e entries s (Held y) b → Ready (sync_held y b highest (keep_promise m x true s))
+    ready_held : (y : LogSync) (b : Bool) (highest : ℕ) → BestSync e entries s (Some y) b → Ready (sync_held y b highest (keep_promise m x true s))
     unfolding sync_held
     ready_held y b highest w =
         let t = keep_promise m x true s in
@@ -180,13 +177,13 @@ module _ (c : Configuration) (e : Event) (entries : List ℕ) (s : SequencePaxos
         j : I 0 (sync_taken (keep_promise m x true s))
         j = o.keeps-put m x s d known i
 
-        put : (b : Bool) → BestSync e entries s (Held y) b → PutFits y (change_of b (keep_promise m x true s)) (keep_promise m x true s).leader_state.max_promise.meta.decided_idx (log_length s) s.internal_storage.decided_idx → highest ≤ sync_end y → I 0 (sync_log s.leader_state.n_leader highest (sync_end y) (put_op b y) (sync_taken (keep_promise m x true s)))
+        put : (b : Bool) → BestSync e entries s (Some y) b → PutFits y (change_of b (keep_promise m x true s)) (keep_promise m x true s).leader_state.max_promise.meta.decided_idx (log_length s) s.internal_storage.decided_idx → highest ≤ sync_end y → I 0 (sync_log s.leader_state.n_leader highest (sync_end y) (put_op b y) (sync_taken (keep_promise m x true s)))
         put true w p l = o.puts-given s.leader_state.n_leader highest _ y (sync_taken (keep_promise m x true s)) f.writes real w.0 p l j
         put false w p l = o.puts-held s.leader_state.n_leader highest _ y (sync_taken (keep_promise m x true s)) f.writes real w p l j
 
-    ready_by : (y : HeldSync) (b : Bool) (highest : ℕ) → BestSync e entries s y b → Ready (sync_by y b highest (keep_promise m x true s))
-    ready_by (Held y) b highest w = ready_held y b highest w
-    ready_by Nothing b highest w =
+    ready_by : (y : Option LogSync) (b : Bool) (highest : ℕ) → BestSync e entries s y b → Ready (sync_by y b highest (keep_promise m x true s))
+    ready_by (Some y) b highest w = ready_held y b highest w
+    ready_by None b highest w =
         ready-put highest (log_length s) Keep
         (λ l. o.puts_none s.leader_state.n_leader highest (sync_taken (keep_promise m x true s)) f.writes real l (o.keeps-put m x s d known i))
 
@@ -209,9 +206,9 @@ module _ (c : Configuration) (e : Event) (entries : List ℕ) (s : SequencePaxos
   along-promise-accept : (m : PromiseMetaData) → Depot c m.pid → Known c m.n_accepted → I 7 (handle_promise_accept m s)
   unfolding handle_promise_accept
   along-promise-accept m d known =
-      o.more 1 7 _ (omega arith) (along-sync-to c e entries s I o 0 m.pid (keep_promise m Nothing false s) (omega arith) d (o.keeps m s d known i))
+      o.more 1 7 _ (omega arith) (along-sync-to c e entries s I o 0 m.pid (keep_promise m None false s) (omega arith) d (o.keeps m s d known i))
 
-  pub along-promise : (n : Ballot) (m : PromiseMetaData) (x : HeldSync) → Real c n → Depot c m.pid → Known c m.n_accepted → Arrives e entries x → I 7 (handle_promise n m x s)
+  pub along-promise : (n : Ballot) (m : PromiseMetaData) (x : Option LogSync) → Real c n → Depot c m.pid → Known c m.n_accepted → Arrives e entries x → I 7 (handle_promise n m x s)
   unfolding handle_promise
   along-promise n m x real d known a =
       either (I 7) (same n s.leader_state.n_leader) (promise_in (standing_of s.state.role s.state.phase) m x s) s

@@ -1,4 +1,5 @@
 -- The entries of the log as a step leaves it are within their limit.
+use Rattle.std.specs.Prelude.{Some}
 use Prim.Native.Nat.{ℕ, ◌+◌, ◌-◌, ◌≤◌, ◌<◌}
 use mathlib.Core.Path.{◌≡◌, refl, ◌∙◌}
 use mathlib.Core.Bool.{Bool, true, false}
@@ -10,7 +11,6 @@ use lib.Seq.{length-take-le, get_or-take, get_or-append-add}
 use borrow.Author.Tests.{ltb-true, ltb-false}
 use Rattle.base.specs.Limits.{max_log, max_entry}
 use Rattle.base.specs.Lists.{over}
-use Rattle.leader_state.specs.declared.HeldSync.TheVariants.{Held}
 use Rattle.messages.specs.declared.Event.{Event}
 use Rattle.paxos_box.specs.declared.SequencePaxos.{SequencePaxos}
 use Rattle.paxos_box.specs.declared.LogOp.{LogOp}
@@ -60,7 +60,7 @@ fit-op (log.Append n) e given held l found c k f s o = fit_written (log_length f
 fit-op (log.PutGiven x) e given held l found c k f s o =
     fit_written x.sync_idx x.len given l (omega (arith, o.1)) (omega (arith, o.0.count)) (fit-less l x.sync_idx (log_length found) o.1 f) (fit-less given x.len (length given) (omega (arith, o.0.count)) o.0.fit)
 fit-op (log.PutHeld x) e given held l found c k f s o =
-    let b : SyncFit (Held x) held = rw o.0 at s in
+    let b : SyncFit (Some x) held = rw o.0 at s in
     fit_written x.sync_idx x.len held l (omega (arith, o.1)) (omega (arith, b.0)) (fit-less l x.sync_idx (log_length found) o.1 f) b.1
 
 pub op-length : (op : LogOp) (len : ℕ) (given held l : List ℕ) → end_after op len ≤ length l → length (op_on op len given held l) ≡ length l

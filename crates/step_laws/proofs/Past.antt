@@ -1,4 +1,5 @@
 -- Along every step the places past the depots are as found.
+use Rattle.std.specs.Prelude.{Option, Some}
 use Prim.Native.Nat.{ℕ, ◌≤◌}
 use mathlib.Core.Path.{◌≡◌, refl, ap, sym, subst, ◌∙◌}
 use mathlib.Core.Bool.{Bool, true, false}
@@ -8,11 +9,10 @@ use lib.Dec.{leb}
 use lib.ListN.{length, get_or}
 use Rattle.base.specs.Limits.{largest}
 use Rattle.ballot.specs.Ballot.{default}
+use Rattle.leader_state.specs.declared.LogSync.{LogSync}
 use Rattle.ballot.specs.declared.Ballot.{Ballot}
 use Rattle.quorum.specs.declared.Configuration.{Configuration}
 use Rattle.leader_state.specs.declared.Depot as place
-use Rattle.leader_state.specs.declared.HeldSync.{HeldSync}
-use Rattle.leader_state.specs.declared.Latest.TheVariants as latest
 use Rattle.leader_state.specs.declared.PromiseState.TheVariants.{Promised}
 use Rattle.leader_state.specs.State.{fresh, with_of, with_depot, set_promise_state, set_latest, next_counter}
 use Rattle.leader_state.specs.Promises.{beats_best}
@@ -21,7 +21,6 @@ use Rattle.messages.specs.declared.Event.{Event}
 use Rattle.messages.specs.declared.Event.TheVariants as event
 use Rattle.paxos_box.specs.declared.SequencePaxos.{SequencePaxos}
 use Rattle.paxos_box.specs.declared.Send.{Send}
-use Rattle.paxos_box.specs.declared.AcceptedMeta.TheVariants as meta
 use Rattle.paxos_box.specs.Box.{at_top, push_of, set_buffered, set_meta, next_place}
 use Rattle.sends.specs.Sends.{the_depot, on_depot, next_seq_num_of, set_latest_of, send_prepare, push_acc_sync, join_to, push_accept_decide, new_accept_decide, push_decide, send_prepare_req}
 use Rattle.log_plan.specs.Log.{sync_log, append_given, append_buffered, buffer_given}
@@ -61,15 +60,15 @@ module _ (c : Configuration) (e : Event) (entries : List ℕ) (f : SequencePaxos
   unfolding push_of
   push m s p = p
 
-  kept : (b : Bool) (x : HeldSync) (s : SequencePaxos) → Past c l 0 s → Past c l 0 (keep_sync b x s)
+  kept : (b : Bool) (x : Option LogSync) (s : SequencePaxos) → Past c l 0 s → Past c l 0 (keep_sync b x s)
   kept true x s p = p
   kept false x s p = p
 
   accepts : (from count to : ℕ) (s : SequencePaxos) → Depot c to → Past c l 0 s → Past c l 0 (new_accept_decide from count to s)
   unfolding new_accept_decide push_accept_decide next_seq_num_of push_of
   accepts from count to s d p =
-      let t = set_latest_of to (latest.At (next_place s)) s in
-      let q = change 0 to (set_latest (latest.At (next_place s))) s d p in
+      let t = set_latest_of to (Some (next_place s)) s in
+      let q = change 0 to (set_latest (Some (next_place s))) s d p in
       either (λ (r : SequencePaxos). Past c l 0 (push_accept_decide from count to r)) (leb largest (the_depot to t).seq_num.counter) (at_top t) (on_depot to next_counter t)
       (λ a. q)
       (λ a. change 0 to next_counter t d q)
@@ -114,7 +113,7 @@ module _ (c : Configuration) (e : Event) (entries : List ℕ) (f : SequencePaxos
         tells-promise = λ to x s w d u p. push _ (cache_promise x s) p;
         tells-again = λ to m s h u p. push _ s p;
         tells-higher = λ k n s h p. push _ s p;
-        sends-accepted = λ k n idx to s h r p. push _ (set_meta (meta.At (record { n = n; at = next_place s })) s) p;
+        sends-accepted = λ k n idx to s h r p. push _ (set_meta (Some (record { n = n; at = next_place s })) s) p;
         raises-accepted = λ k n at idx s h p. push _ s p;
         forwards = λ k s h f p. push _ s p;
         forwards-buffered = λ k s h n b p. push _ (set_buffered 0 s) p;

@@ -1,4 +1,5 @@
 -- A closed fact along what is sent to one depot, and to each of several.
+use Rattle.std.specs.Prelude.{Option, None, Some}
 use Prim.Native.Nat.{ℕ, zero, suc, ◌+◌, ◌≤◌, ◌<◌}
 use mathlib.Core.Path.{◌≡◌, refl, ap}
 use mathlib.Core.Logic.{inl, inr}
@@ -12,8 +13,6 @@ use Rattle.quorum.specs.declared.Configuration.{Configuration}
 use Rattle.leader_state.specs.declared.PromiseMetaData.{PromiseMetaData}
 use Rattle.leader_state.specs.declared.PromiseState.{PromiseState}
 use Rattle.leader_state.specs.declared.PromiseState.TheVariants.{NotPromised, Promised, PromisedHigher}
-use Rattle.leader_state.specs.declared.Latest.{Latest}
-use Rattle.leader_state.specs.declared.Latest.TheVariants.{Nothing, At}
 use Rattle.leader_state.specs.State.{set_latest, set_accepted, set_promise_state, next_session, next_counter}
 use Rattle.leader_state.specs.Promises.{is_promised}
 use Rattle.messages.specs.declared.Event.{Event}
@@ -34,7 +33,7 @@ mild-session = record { latest = λ d. inl refl; promise = λ d. inl refl }
 pub mild-counter : Mild next_counter
 mild-counter = record { latest = λ d. inl refl; promise = λ d. inl refl }
 
-pub mild-forget : Mild (set_latest Nothing)
+pub mild-forget : Mild (set_latest None)
 mild-forget = record { latest = λ d. inr refl; promise = λ d. inl refl }
 
 pub mild-accepted : (idx : ℕ) → Mild (set_accepted idx)
@@ -61,9 +60,9 @@ same-decided : (from count to : ℕ) (s : SequencePaxos) → (accept_decide_to f
 unfolding accept_decide_to new_accept_decide push_accept_decide join_to push_of
 same-decided from count to s = by (latest_accdec to s)
   where
-    by : (x : Latest) → (accept_decide_by from count to x s).internal_storage ≡ s.internal_storage
-    by (At at) = refl
-    by Nothing = same_next to (set_latest_of to (At (next_place s)) s)
+    by : (x : Option ℕ) → (accept_decide_by from count to x s).internal_storage ≡ s.internal_storage
+    by (Some at) = refl
+    by None = same_next to (set_latest_of to (Some (next_place s)) s)
 
 same_turn : (from count : ℕ) (on : Bool) (to : ℕ) (s : SequencePaxos) → log_length (turn_of (each.AcceptDecide from count) on to s) ≡ log_length s
 same_turn from count true to s = ap (λ (x : InternalStorage). x.accepted_idx) (same-decided from count to s)
@@ -87,7 +86,7 @@ module _ (c : Configuration) (e : Event) (entries : List ℕ) (found : SequenceP
   along-session : (k to : ℕ) (s : SequencePaxos) → Depot c to → I k s → I k (new_session to s)
   unfolding new_session
   along-session k to s d i =
-      o.changes-place k to (set_latest Nothing) (next_seq_num_of to (next_session_of to s)) d mild-forget (along-counter k to (next_session_of to s) d (along-raise k to s d i))
+      o.changes-place k to (set_latest None) (next_seq_num_of to (next_session_of to s)) d mild-forget (along-counter k to (next_session_of to s) d (along-raise k to s d i))
 
   along-accsync : (k to : ℕ) (m : PromiseMetaData) (s : SequencePaxos) → k < 8 → Depot c to → I k s → I (k + 1) (send_acc_sync to m s)
   unfolding send_acc_sync
@@ -108,17 +107,17 @@ module _ (c : Configuration) (e : Event) (entries : List ℕ) (found : SequenceP
   unfolding accept_decide_to
   along-accept k from count to s h d l i = by (latest_accdec to s)
     where
-      by : (x : Latest) → I (k + 1) (accept_decide_by from count to x s)
-      by (At at) = o.sends-join k from count to at s h l i
-      by Nothing = o.sends-entries k from count to s h d l i
+      by : (x : Option ℕ) → I (k + 1) (accept_decide_by from count to x s)
+      by (Some at) = o.sends-join k from count to at s h l i
+      by None = o.sends-entries k from count to s h d l i
 
   along-decide : (k to : ℕ) (s : SequencePaxos) → k < 8 → Depot c to → I k s → I (k + 1) (decide_to to s)
   unfolding decide_to
   along-decide k to s h d i = by (latest_accdec to s)
     where
-      by : (x : Latest) → I (k + 1) (decide_by to x s)
-      by (At at) = o.sends-join k 0 0 to at s h (omega arith) i
-      by Nothing = o.sends-decide k to (next_seq_num_of to s) h (along-counter k to s d i)
+      by : (x : Option ℕ) → I (k + 1) (decide_by to x s)
+      by (Some at) = o.sends-join k 0 0 to at s h (omega arith) i
+      by None = o.sends-decide k to (next_seq_num_of to s) h (along-counter k to s d i)
 
   along_one : (what : Each) (k to : ℕ) (s : SequencePaxos) → k < 8 → Depot c to → InLog what (log_length s) → I k s → I (k + 1) (send_one what to s)
   along_one each.Prepare k to s h d l i = o.sends-prepare k to s h i

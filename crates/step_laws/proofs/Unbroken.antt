@@ -1,4 +1,5 @@
 -- A record that is whole is not broken: the converse of what refusals 1 and 2 leave.
+use Rattle.std.specs.Prelude.{Option, None, Some}
 use Prim.Native.Nat.{ℕ, ◌+◌, ◌≤◌, ◌<◌}
 use mathlib.Core.Path.{◌≡◌, refl}
 use mathlib.Core.Logic.{◌⊎◌, inl, inr}
@@ -11,15 +12,14 @@ use lib.Seq.{get_or-take, get_or-drop}
 use borrow.Author.Tests.{le-ltb, lt-leb, eq-eqb, ltb-true}
 use Rattle.base.specs.Limits.{max_log, max_messages, max_buffered, max_store}
 use Rattle.ballot.specs.Ballot.{is_default}
+use Rattle.paxos_box.specs.declared.AcceptedAt.{AcceptedAt}
+use Rattle.paxos_box.specs.declared.CachedPromise.{CachedPromise}
+use Rattle.leader_state.specs.declared.LogSync.{LogSync}
 use Rattle.ballot.specs.declared.Ballot.{Ballot}
 use Rattle.quorum.specs.declared.Configuration.{Configuration}
 use Rattle.quorum.proofs.Laws.{range-depot}
 use Rattle.leader_state.specs.declared.Depot as place
-use Rattle.leader_state.specs.declared.Latest.{Latest}
-use Rattle.leader_state.specs.declared.Latest.TheVariants as latest
 use Rattle.leader_state.specs.declared.LeaderState.{LeaderState}
-use Rattle.leader_state.specs.declared.HeldSync.{HeldSync}
-use Rattle.leader_state.specs.declared.HeldSync.TheVariants as held
 use Rattle.leader_state.specs.declared.PromiseState.{PromiseState}
 use Rattle.leader_state.specs.declared.PromiseState.TheVariants.{NotPromised, Promised, PromisedHigher}
 use Rattle.leader_state.specs.State.{depot_of}
@@ -28,10 +28,6 @@ use Rattle.messages.specs.declared.Row.{Row}
 use Rattle.messages.specs.declared.PaxosMsg.{PaxosMsg}
 use Rattle.messages.specs.declared.PaxosMsg.TheVariants.{PrepareReq, Prepare, Promise, AcceptSync, AcceptDecide, Accepted, NotAccepted, Decide, ProposalForward}
 use Rattle.paxos_box.specs.Box.{is_leader}
-use Rattle.paxos_box.specs.declared.AcceptedMeta.{AcceptedMeta}
-use Rattle.paxos_box.specs.declared.AcceptedMeta.TheVariants as meta
-use Rattle.paxos_box.specs.declared.CachedMessage.{CachedMessage}
-use Rattle.paxos_box.specs.declared.CachedMessage.TheVariants as cached
 use Rattle.log_plan.specs.Log.{ends_past, sync_end}
 use Rattle.record.specs.declared.Record.{Record}
 use Rattle.hire_book.specs.Book.{any_above, broken_of}
@@ -84,27 +80,27 @@ none_from : (l : List ℕ) (start n : ℕ) → FitFrom l start n → any_above (
 none_from l start n f =
     none_above (take n (drop start l)) (λ i h. let m : i < n = omega (arith, length-take n (drop start l)) in rw (get_or-take n (drop start l) i 0 m, get_or-drop start l i 0) (f i m))
 
-not-above : (s : HeldSync) (buffer : List ℕ) → SyncFit s buffer → held_above s buffer ≡ false
-not-above held.Nothing buffer f = refl
-not-above (held.Held x) buffer f = none_first buffer x.len x.len (omega arith) f.1
+not-above : (s : Option LogSync) (buffer : List ℕ) → SyncFit s buffer → held_above s buffer ≡ false
+not-above None buffer f = refl
+not-above (Some x) buffer f = none_first buffer x.len x.len (omega arith) f.1
 
-not-past : (s : HeldSync) (buffer : List ℕ) → SyncFit s buffer → held_past s ≡ false
+not-past : (s : Option LogSync) (buffer : List ℕ) → SyncFit s buffer → held_past s ≡ false
 unfolding ends_past
-not-past held.Nothing buffer f = refl
-not-past (held.Held x) buffer f = le-ltb max_log (sync_end x) f.0
+not-past None buffer f = refl
+not-past (Some x) buffer f = le-ltb max_log (sync_end x) f.0
 
 -- positions
-latest-below : (n : ℕ) (l : Latest) → LatestBelow n l → latest_past n l ≡ false
-latest-below n latest.Nothing b = refl
-latest-below n (latest.At at) b = lt-leb n at b
+latest-below : (n : ℕ) (l : Option ℕ) → LatestBelow n l → latest_past n l ≡ false
+latest-below n None b = refl
+latest-below n (Some at) b = lt-leb n at b
 
-meta-below : (c : Configuration) (n : ℕ) (m : AcceptedMeta) → MetaFit c n m → meta_past n m ≡ false
-meta-below c n meta.Nothing f = refl
-meta-below c n (meta.At a) f = lt-leb n a.at f.0
+meta-below : (c : Configuration) (n : ℕ) (m : Option AcceptedAt) → MetaFit c n m → meta_past n m ≡ false
+meta-below c n None f = refl
+meta-below c n (Some a) f = lt-leb n a.at f.0
 
-meta-known : (c : Configuration) (n : ℕ) (m : AcceptedMeta) → MetaFit c n m → meta_foreign c m ≡ false
-meta-known c n meta.Nothing f = refl
-meta-known c n (meta.At a) f = not-foreign c a.n f.1
+meta-known : (c : Configuration) (n : ℕ) (m : Option AcceptedAt) → MetaFit c n m → meta_foreign c m ≡ false
+meta-known c n None f = refl
+meta-known c n (Some a) f = not-foreign c a.n f.1
 
 -- places
 every-place : (f : ℕ → place.Depot → Bool) (depots : ℕ) (l : LeaderState) → ((pid : ℕ) → (0 < pid) × (pid ≤ depots) → f pid (depot_of pid l) ≡ false) → any_place f depots l ≡ false
@@ -121,13 +117,13 @@ promise-known c pid NotPromised f = refl
 promise-known c pid (Promised m) f = not-foreign c m.n_accepted f.1
 promise-known c pid PromisedHigher f = refl
 
-cached-known : (c : Configuration) (m : CachedMessage) → CachedFit c m → cached_foreign c m ≡ false
-cached-known c cached.Nothing f = refl
-cached-known c (cached.Held m) f = neither-foreign c m.n m.n_accepted (λ d. f.0.1) f.1
+cached-known : (c : Configuration) (m : Option CachedPromise) → CachedFit c m → cached_foreign c m ≡ false
+cached-known c None f = refl
+cached-known c (Some m) f = neither-foreign c m.n m.n_accepted (λ d. f.0.1) f.1
 
-cached-real : (c : Configuration) (m : CachedMessage) → CachedFit c m → message_default m ≡ false
-cached-real c cached.Nothing f = refl
-cached-real c (cached.Held m) f = f.0.0
+cached-real : (c : Configuration) (m : Option CachedPromise) → CachedFit c m → message_default m ≡ false
+cached-real c None f = refl
+cached-real c (Some m) f = f.0.0
 
 -- heads
 every-head : (f : Head → Bool) (row : Row) (len : ℕ) → ((k : ℕ) → k < len → f (head_at row k) ≡ false) → any_head f row len ≡ false
@@ -179,7 +175,7 @@ module _ (c : Configuration) (r : Record) (row : Row) (l : Lent) (w : Whole c r 
   positions-below =
       both (any_place (place_past r.outgoing) c.depots r.leader_state) _
       (every-place (place_past r.outgoing) c.depots r.leader_state (λ pid d. latest-below r.outgoing (depot_of pid r.leader_state).latest (w.places pid d).latest))
-      (meta-below c r.outgoing r.latest_accepted_meta.meta w.accepted)
+      (meta-below c r.outgoing r.latest_accepted_meta w.accepted)
 
   heads-stand : head_off r row ≡ false
   unfolding head_off
@@ -203,8 +199,8 @@ module _ (c : Configuration) (r : Record) (row : Row) (l : Lent) (w : Whole c r 
       both (either_foreign c r.internal_storage.promise r.internal_storage.accepted_round) _ (neither-foreign c r.internal_storage.promise r.internal_storage.accepted_round w.promise w.round)
       (both (either_foreign c r.leader_state.n_leader r.leader_state.max_promise.meta.n_accepted) _ (neither-foreign c r.leader_state.n_leader r.leader_state.max_promise.meta.n_accepted w.leads w.best-round)
       (both (any_place (place_foreign c) c.depots r.leader_state) _ (every-place (place_foreign c) c.depots r.leader_state (λ pid d. promise-known c pid (depot_of pid r.leader_state).promise (w.places pid d).promise))
-      (both (cached_foreign c r.cached_promise_message.message) _ (cached-known c r.cached_promise_message.message w.message)
-      (both (meta_foreign c r.latest_accepted_meta.meta) _ (meta-known c r.outgoing r.latest_accepted_meta.meta w.accepted)
+      (both (cached_foreign c r.cached_promise_message) _ (cached-known c r.cached_promise_message w.message)
+      (both (meta_foreign c r.latest_accepted_meta) _ (meta-known c r.outgoing r.latest_accepted_meta w.accepted)
       (every-head (head_foreign c) row r.outgoing (λ k h. message-known c (head_at row k).msg (w.heads k h).ballots))))))
 
   state-stands : state_broken c r row ≡ false
@@ -215,7 +211,7 @@ module _ (c : Configuration) (r : Record) (row : Row) (l : Lent) (w : Whole c r 
       (both (promise_misplaced c r) _ promises-placed
       (both (sync_past r) _ syncs-within
       (both (leader_off c r) _ leads-own
-      (both (kept_foreign c r row) _ none-foreign (cached-real c r.cached_promise_message.message w.message))))))
+      (both (kept_foreign c r row) _ none-foreign (cached-real c r.cached_promise_message w.message))))))
 
   pub whole-unbroken : record_broken c r row l ≡ false
   unfolding record_broken

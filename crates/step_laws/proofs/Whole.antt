@@ -1,4 +1,5 @@
 -- A step that is taken leaves a world that is not broken, with lists of the lengths as found: refusals 1 and 2 are never given to a box's own state.
+use Rattle.std.specs.Prelude.{Option, None, Some}
 use Prim.Native.Nat.{ℕ, ◌+◌, ◌-◌, ◌≤◌, ◌<◌}
 use mathlib.Core.Path.{◌≡◌, refl, ap, sym, subst, ◌∙◌}
 use mathlib.Core.Logic.{inl, inr}
@@ -9,17 +10,15 @@ use lib.ListN.{length}
 use borrow.Author.Tests.{eq-eqb}
 use Rattle.base.proofs.Tests.{not-both}
 use Rattle.base.specs.Limits.{max_log, max_store, max_messages}
+use Rattle.paxos_box.specs.declared.AcceptedAt.{AcceptedAt}
 use Rattle.quorum.specs.declared.Configuration.{Configuration}
 use Rattle.quorum.proofs.Laws.{Stands, says-stands}
 use Rattle.leader_state.specs.declared.Depot as place
-use Rattle.leader_state.specs.declared.Latest.TheVariants as latest
 use Rattle.leader_state.specs.State.{fresh, set_latest, with_of, forget_all}
 use Rattle.messages.specs.declared.Event.{Event}
 use Rattle.messages.specs.declared.Event.TheVariants as event
 use Rattle.paxos_box.specs.declared.SequencePaxos.{SequencePaxos}
 use Rattle.paxos_box.specs.declared.Outgoing.{Outgoing}
-use Rattle.paxos_box.specs.declared.AcceptedMeta.{AcceptedMeta}
-use Rattle.paxos_box.specs.declared.AcceptedMeta.TheVariants as meta
 use Rattle.outcome.specs.Outcome.{drained, restarted, outcome_refusal}
 use Rattle.hire_book.specs.Book.{book_length}
 use Rattle.sight.specs.Sight.{head_at, queue_entries}
@@ -44,13 +43,13 @@ use Rattle.step_laws.proofs.After.{Shape, log-length, log-fit, book-stands, buff
 use Rattle.step_laws.proofs.Outcome.{outcome_of, Gives, Ways, refused, took, outcome-later, ways}
 
 -- the remembered Accepted: its position and its ballot
-meta-parts : (c : Configuration) (n : ℕ) (m : AcceptedMeta) → MetaFit c n m → MetaBelow n m × MetaKnown c m
-meta-parts c n meta.Nothing f = (tt, tt)
-meta-parts c n (meta.At a) f = (f.0, f.1)
+meta-parts : (c : Configuration) (n : ℕ) (m : Option AcceptedAt) → MetaFit c n m → MetaBelow n m × MetaKnown c m
+meta-parts c n None f = (tt, tt)
+meta-parts c n (Some a) f = (f.0, f.1)
 
-meta-whole : (c : Configuration) (n : ℕ) (m : AcceptedMeta) → MetaBelow n m → MetaKnown c m → MetaFit c n m
-meta-whole c n meta.Nothing b k = tt
-meta-whole c n (meta.At a) b k = (b, k)
+meta-whole : (c : Configuration) (n : ℕ) (m : Option AcceptedAt) → MetaBelow n m → MetaKnown c m → MetaFit c n m
+meta-whole c n None b k = tt
+meta-whole c n (Some a) b k = (b, k)
 
 -- what the found box has
 module _ (c : Configuration) (e : Event) (entries : List ℕ) (w : World) (t : Taken c w.node w.row w.lists e entries) where
@@ -67,7 +66,7 @@ module _ (c : Configuration) (e : Event) (entries : List ℕ) (w : World) (t : T
         own = t.whole.leader;
         places = λ pid d. (t.whole.places pid d).promise;
         message = t.whole.message;
-        accepted = (meta-parts c w.node.outgoing w.node.latest_accepted_meta.meta t.whole.accepted).1;
+        accepted = (meta-parts c w.node.outgoing w.node.latest_accepted_meta t.whole.accepted).1;
         items = record { room = refl; each = none };
       }
 
@@ -77,7 +76,7 @@ module _ (c : Configuration) (e : Event) (entries : List ℕ) (w : World) (t : T
       record {
         config = refl;
         things = omega arith;
-        below = let z : w.node.outgoing + 0 ≡ w.node.outgoing = omega arith in rw z (record { places = λ pid d. (t.whole.places pid d).latest; accepted = (meta-parts c w.node.outgoing w.node.latest_accepted_meta.meta t.whole.accepted).0 });
+        below = let z : w.node.outgoing + 0 ≡ w.node.outgoing = omega arith in rw z (record { places = λ pid d. (t.whole.places pid d).latest; accepted = (meta-parts c w.node.outgoing w.node.latest_accepted_meta t.whole.accepted).0 });
       }
 
   stocked-found : Stocked c e entries (found c e entries w) 0 (found c e entries w)
@@ -99,7 +98,7 @@ named-drained c s p =
       leads-known = p.leads-known;
       best-known = p.best-known;
       own = p.own;
-      places = λ pid d. first-place (λ (x : place.Depot). PromiseFit c pid x.promise) s.config.depots (set_latest latest.Nothing) s.leader_state.depots (pid - 1) fresh (depots-same c s p.config pid d) (p.places pid d) tt;
+      places = λ pid d. first-place (λ (x : place.Depot). PromiseFit c pid x.promise) s.config.depots (set_latest None) s.leader_state.depots (pid - 1) fresh (depots-same c s p.config pid d) (p.places pid d) tt;
       message = p.message;
       accepted = tt;
       items = p.items;
@@ -122,12 +121,12 @@ named-restarted c s p =
       items = p.items;
     }
 
-below-drained : (c : Configuration) (s : SequencePaxos) → s.config ≡ c → Below c 0 (drained s).leader_state.depots (drained s).latest_accepted_meta.meta
+below-drained : (c : Configuration) (s : SequencePaxos) → s.config ≡ c → Below c 0 (drained s).leader_state.depots (drained s).latest_accepted_meta
 unfolding drained forget_all
 below-drained c s q =
-    record { places = λ pid d. first-place (λ (x : place.Depot). LatestBelow 0 x.latest) s.config.depots (set_latest latest.Nothing) s.leader_state.depots (pid - 1) fresh (depots-same c s q pid d) tt tt; accepted = tt }
+    record { places = λ pid d. first-place (λ (x : place.Depot). LatestBelow 0 x.latest) s.config.depots (set_latest None) s.leader_state.depots (pid - 1) fresh (depots-same c s q pid d) tt tt; accepted = tt }
 
-below-restarted : (c : Configuration) (s : SequencePaxos) → s.config ≡ c → Below c 0 (restarted s).leader_state.depots (restarted s).latest_accepted_meta.meta
+below-restarted : (c : Configuration) (s : SequencePaxos) → s.config ≡ c → Below c 0 (restarted s).leader_state.depots (restarted s).latest_accepted_meta
 unfolding restarted with_of
 below-restarted c s q =
     record { places = λ pid d. first-place (λ (x : place.Depot). LatestBelow 0 x.latest) s.config.depots (λ x. fresh) s.leader_state.depots (pid - 1) fresh (depots-same c s q pid d) tt tt; accepted = tt }
@@ -145,9 +144,9 @@ stocked-restarted c entries f s p =
 pub record Leaves (c : Configuration) (e : Event) (entries : List ℕ) (f s : SequencePaxos) : Type 0 where
   pub named : Named c 7 s
   pub stocked : Stocked c e entries f 7 s
-  pub below : Below c (waiting e (f.outgoing.len + s.plan.sends.messages)) s.leader_state.depots s.latest_accepted_meta.meta
+  pub below : Below c (waiting e (f.outgoing.len + s.plan.sends.messages)) s.leader_state.depots s.latest_accepted_meta
 
-at-wait : (c : Configuration) (e : Event) (m n k : ℕ) (l : List place.Depot) (a : AcceptedMeta) → ((n : ℕ) → waiting e n ≡ n) → m ≡ n → Below c (m + k) l a → Below c (waiting e (n + k)) l a
+at-wait : (c : Configuration) (e : Event) (m n k : ℕ) (l : List place.Depot) (a : Option AcceptedAt) → ((n : ℕ) → waiting e n ≡ n) → m ≡ n → Below c (m + k) l a → Below c (waiting e (n + k)) l a
 at-wait c e m n k l a same q b = rw (same (n + k), ← q) b
 
 module _ (c : Configuration) (entries : List ℕ) (w : World) where
@@ -168,7 +167,7 @@ module _ (c : Configuration) (entries : List ℕ) (w : World) where
           let s = outcome_of c e entries w in
           let l = leaves-queued e q t in
           let o : s.outgoing.len ≡ (found c e entries w).outgoing.len = ap (λ (x : Outgoing). x.len) (planned-taken c e entries w t).queue in
-          record { named = l.0; stocked = l.1; below = at-wait c e s.outgoing.len (found c e entries w).outgoing.len s.plan.sends.messages s.leader_state.depots s.latest_accepted_meta.meta same o l.2.below }
+          record { named = l.0; stocked = l.1; below = at-wait c e s.outgoing.len (found c e entries w).outgoing.len s.plan.sends.messages s.leader_state.depots s.latest_accepted_meta same o l.2.below }
 
       by : (e : Event) → Taken c w.node w.row w.lists e entries → Leaves c e entries (found c e entries w) (outcome_of c e entries w)
       by (event.Message m) t = queued (event.Message m) tt (λ n. refl) t
@@ -224,7 +223,7 @@ module _ (c : Configuration) (e : Event) (entries : List ℕ) (w : World) (t : T
         apart = λ i j l m. (queue-lies c e entries w t h s p o).apart i j l (omega (arith, fewer));
         carried = few-carried;
         places = λ pid d. record { latest = v.below.places pid d; promise = v.named.places pid d };
-        accepted = meta-whole c (waiting e n) s.latest_accepted_meta.meta v.below.accepted v.named.accepted;
+        accepted = meta-whole c (waiting e n) s.latest_accepted_meta v.below.accepted v.named.accepted;
         leader = v.named.own;
         promise = v.named.promise-known;
         round = v.named.round-known;

@@ -1,4 +1,5 @@
 -- What every step plans to write: where the log ends, what goes on it, how many entries go to the buffers, and the sums of what is sent.
+use Rattle.std.specs.Prelude.{Option, None, Some}
 use Prim.Native.Nat.{ℕ, ◌+◌, ◌-◌, ◌≤◌, ◌<◌, min, max}
 use mathlib.Core.Path.{◌≡◌, refl, ap, subst}
 use mathlib.Core.Logic.{◌⊎◌, inl, inr}
@@ -8,10 +9,8 @@ use native.Mathlib.Omega.{arith}
 use lib.Dec.{ltb, leb}
 use lib.ListN.{length}
 use Rattle.base.specs.Limits.{max_log, largest}
+use Rattle.leader_state.specs.declared.LogSync.{LogSync}
 use Rattle.quorum.specs.declared.Configuration.{Configuration}
-use Rattle.leader_state.specs.declared.HeldSync.{HeldSync}
-use Rattle.leader_state.specs.declared.HeldSync.TheVariants as held
-use Rattle.leader_state.specs.declared.Latest.TheVariants.{At}
 use Rattle.leader_state.specs.State.{next_counter}
 use Rattle.leader_state.specs.Promises.{beats_best}
 use Rattle.messages.specs.declared.Event.{Event}
@@ -23,7 +22,6 @@ use Rattle.paxos_box.specs.declared.Sends.{Sends}
 use Rattle.paxos_box.specs.declared.Writes.{Writes}
 use Rattle.paxos_box.specs.declared.LogOp.{LogOp}
 use Rattle.paxos_box.specs.declared.LogOp.TheVariants.{Keep, Append, PutGiven, PutHeld}
-use Rattle.paxos_box.specs.declared.AcceptedMeta.TheVariants as meta
 use Rattle.paxos_box.specs.Box.{at_top, push_of, set_buffered, next_place, set_meta}
 use Rattle.sends.specs.Sends.{log_length, the_depot, on_depot, next_seq_num_of, set_latest_of, send_prepare, push_acc_sync, join_to, push_accept_decide, new_accept_decide, push_decide, send_prepare_req}
 use Rattle.log_plan.specs.Log.{sync_end, sync_log, append_given, kept_of, append_buffered, buffer_given}
@@ -43,7 +41,7 @@ abbrev pub OpFit : Event → List ℕ → SequencePaxos → LogOp → Type 0
 OpFit e entries found Keep = Unit {0}
 OpFit e entries found (Append n) = (n ≡ length entries) × Fit entries (length entries)
 OpFit e entries found (PutGiven x) = Brought e entries x × (x.sync_idx ≤ log_length found) × (found.internal_storage.decided_idx ≤ found.plan.sight.brought_change)
-OpFit e entries found (PutHeld x) = (found.leader_state.max_promise.sync ≡ held.Held x) × (x.sync_idx ≤ log_length found) × (found.internal_storage.decided_idx ≤ found.plan.sight.held_change)
+OpFit e entries found (PutHeld x) = (found.leader_state.max_promise.sync ≡ Some x) × (x.sync_idx ≤ log_length found) × (found.internal_storage.decided_idx ≤ found.plan.sight.held_change)
 
 -- of the found box and of the box that decides: its configuration and queue, what is sent and written, its decided index, log length and buffered proposals
 pub record Plans (c : Configuration) (e : Event) (entries : List ℕ) (found : SequencePaxos) (k : ℕ) (cfg : Configuration) (o : Outgoing) (x : Sends) (w : Writes) (d a b : ℕ) : Type 0 where
@@ -115,12 +113,12 @@ module _ (c : Configuration) (e : Event) (entries : List ℕ) (found : SequenceP
   empty k s n p =
       record { config = p.config; queue = p.queue; things = p.things; sums = p.sums; ends = p.ends; op = p.op; kept = p.kept; rises = p.rises; decided = p.decided; held = p.held; buffered = omega arith; buffer = inl n }
 
-  hold : (x : HeldSync) (b : Bool) (s : SequencePaxos) → Holds e entries x → Planned c e entries found 0 s → Planned c e entries found 0 (keep_sync b x s)
-  hold (held.Held x) true s h p = record { config = p.config; queue = p.queue; things = p.things; sums = p.sums; ends = p.ends; op = p.op; kept = p.kept; rises = p.rises; decided = p.decided; held = omega (arith, h.1); buffered = p.buffered; buffer = p.buffer }
-  hold held.Nothing true s h p = record { config = p.config; queue = p.queue; things = p.things; sums = p.sums; ends = p.ends; op = p.op; kept = p.kept; rises = p.rises; decided = p.decided; held = omega arith; buffered = p.buffered; buffer = p.buffer }
+  hold : (x : Option LogSync) (b : Bool) (s : SequencePaxos) → Holds e entries x → Planned c e entries found 0 s → Planned c e entries found 0 (keep_sync b x s)
+  hold (Some x) true s h p = record { config = p.config; queue = p.queue; things = p.things; sums = p.sums; ends = p.ends; op = p.op; kept = p.kept; rises = p.rises; decided = p.decided; held = omega (arith, h.1); buffered = p.buffered; buffer = p.buffer }
+  hold None true s h p = record { config = p.config; queue = p.queue; things = p.things; sums = p.sums; ends = p.ends; op = p.op; kept = p.kept; rises = p.rises; decided = p.decided; held = omega arith; buffered = p.buffered; buffer = p.buffer }
   hold x false s h p = p
 
-  cache : (k : ℕ) (x : HeldSync) (s : SequencePaxos) → Planned c e entries found k s → Planned c e entries found k (cache_promise x s)
+  cache : (k : ℕ) (x : Option LogSync) (s : SequencePaxos) → Planned c e entries found k s → Planned c e entries found k (cache_promise x s)
   unfolding cache_promise
   cache k x s p = record { config = p.config; queue = p.queue; things = p.things; sums = p.sums; ends = p.ends; op = p.op; kept = p.kept; rises = p.rises; decided = p.decided; held = p.held; buffered = p.buffered; buffer = p.buffer }
 
@@ -132,7 +130,7 @@ module _ (c : Configuration) (e : Event) (entries : List ℕ) (found : SequenceP
   accepts : (k from count to : ℕ) (s : SequencePaxos) → k < 8 → Planned c e entries found k s → Planned c e entries found (k + 1) (new_accept_decide from count to s)
   unfolding new_accept_decide push_accept_decide
   accepts k from count to s h p =
-      let t = set_latest_of to (At (next_place s)) s in
+      let t = set_latest_of to (Some (next_place s)) s in
       push _ k (next_seq_num_of to t) h (next k to t p)
 
   pub planned-closed : Closed c e entries found (Planned c e entries found)
@@ -171,7 +169,7 @@ module _ (c : Configuration) (e : Event) (entries : List ℕ) (found : SequenceP
         tells-promise = λ to x s w d u p. push _ 0 (cache_promise x s) (omega arith) (cache 0 x s p);
         tells-again = λ to m s h u p. push _ 0 s (omega arith) p;
         tells-higher = λ k n s h p. push _ k s h p;
-        sends-accepted = λ k n idx to s h r p. push _ k (set_meta (meta.At (record { n = n; at = next_place s })) s) h p;
+        sends-accepted = λ k n idx to s h r p. push _ k (set_meta (Some (record { n = n; at = next_place s })) s) h p;
         raises-accepted = λ k n at idx s h p. push _ k s h p;
         forwards = λ k s h f p. push _ k s h p;
         forwards-buffered = λ k s h n b p. push _ k (set_buffered 0 s) h (empty k s (ap buffer_count n) p);

@@ -7,7 +7,7 @@ ghost use Rattle.base.specs.Lists.{over};
 ghost use Rattle.storage.specs.Storage.{put_at, end_after, op_on, log_after, cached_after, best_after, best_count, buffer_after, buffer_count};
 
 use leader_state::LogSync;
-use paxos_box::{BestOp, BufferOp, CachedOp, LogOp};
+use paxos_box::LogOp;
 
 // The first n entries, or all where there are fewer.
 pub fn first(entries: &[u64], n: usize) -> &[u64]
@@ -106,13 +106,13 @@ pub fn write_log(
 }
 
 // The cached promise's buffer, from the log as the step leaves it.
-pub fn write_cached(cached: &mut [u64], log: &[u64], op: CachedOp)
+pub fn write_cached(cached: &mut [u64], log: &[u64], op: Option<LogSync>)
     requires { length log.now ≤ length cached.old }
     ensures { cached.new ≡ cached_after op log.now cached.old }
 {
     match op {
-        CachedOp::Keep => {}
-        CachedOp::FromLog(x) => {
+        None => {}
+        Some(x) => {
             let from = x.sync_idx;
             let n = x.len;
             write_suffix(cached, part(log, from, n));
@@ -121,24 +121,24 @@ pub fn write_cached(cached: &mut [u64], log: &[u64], op: CachedOp)
 }
 
 // The held sync's buffer.
-pub fn write_best(best: &mut [u64], given: &[u64], op: BestOp)
+pub fn write_best(best: &mut [u64], given: &[u64], op: Option<usize>)
     requires { best_count op ≤ length best.old }
     ensures { best.new ≡ best_after op given.now best.old }
 {
     match op {
-        BestOp::Keep => {}
-        BestOp::Given(count) => write_suffix(best, first(given, count)),
+        None => {}
+        Some(count) => write_suffix(best, first(given, count)),
     }
 }
 
 // The buffered proposals, of which the first `len` wait.
-pub fn write_buffer(entries: [u64; 16], len: usize, given: &[u64], op: BufferOp) -> [u64; 16]
+pub fn write_buffer(entries: [u64; 16], len: usize, given: &[u64], op: Option<usize>) -> [u64; 16]
     requires { len + buffer_count op ≤ max_buffered }
     ensures { result ≡ buffer_after op len given.now entries }
 {
     match op {
-        BufferOp::Keep => entries,
-        BufferOp::Add(count) => {
+        None => entries,
+        Some(count) => {
             let mut all = entries;
             sync_log(&mut all, len, first(given, count));
             all

@@ -1,4 +1,5 @@
 -- What a send to one depot does to the two flags of refusal, and that it changes no other depot's place; a flag of a loop over depots is set exactly when one marked turn sets it.
+use Rattle.std.specs.Prelude.{Option, None, Some}
 use Prim.Native.Nat.{ℕ, zero, suc, ◌-◌, ◌≤◌, ◌<◌}
 use mathlib.Core.Path.{◌≡◌, refl, ap, sym, ◌∙◌}
 use mathlib.Core.Logic.{◌⊎◌, inl, inr, ◌↔◌, ◌≢◌}
@@ -17,8 +18,6 @@ use Rattle.leader_state.specs.declared.LeaderState.{LeaderState}
 use Rattle.leader_state.specs.declared.PromiseMetaData.{PromiseMetaData}
 use Rattle.leader_state.specs.declared.PromiseState.{PromiseState}
 use Rattle.leader_state.specs.declared.PromiseState.TheVariants.{NotPromised, Promised, PromisedHigher}
-use Rattle.leader_state.specs.declared.Latest.{Latest}
-use Rattle.leader_state.specs.declared.Latest.TheVariants.{Nothing, At}
 use Rattle.leader_state.specs.State.{fresh, set_latest, next_session, next_counter}
 use Rattle.leader_state.specs.Promises.{is_promised, sync_start}
 use Rattle.paxos_box.specs.declared.SequencePaxos.{SequencePaxos}
@@ -142,7 +141,7 @@ unfolding new_session
 turn-new-session to s h =
     let t = next_session_of to s in
     let x = turn-then (turn-session to s h) (turn-counter to t h) in
-    turn-as refl (or-false (leb largest (session_of to s) || leb largest (counter_of to t)) ∙ restarts to s) (turn-then x (turn-place to (set_latest Nothing) (next_seq_num_of to t) h))
+    turn-as refl (or-false (leb largest (session_of to s) || leb largest (counter_of to t)) ∙ restarts to s) (turn-then x (turn-place to (set_latest None) (next_seq_num_of to t) h))
 
 turn-accsync : (from to : ℕ) (s : SequencePaxos) → Turn false false to s (push_acc_sync from to s)
 unfolding push_acc_sync
@@ -171,9 +170,9 @@ turn-sync-to to s NotPromised h = turn-none to s
 turn-sync-to to s PromisedHigher h = turn-none to s
 
 -- no AcceptDecide is remembered
-abbrev pub is_nothing : Latest → Bool
-is_nothing Nothing = true
-is_nothing (At at) = false
+abbrev pub is_nothing : Option ℕ → Bool
+is_nothing None = true
+is_nothing (Some at) = false
 
 turn-join : (from count to at : ℕ) (s : SequencePaxos) → Turn false false to s (join_to from count to at s)
 unfolding join_to
@@ -182,23 +181,23 @@ turn-join from count to at s = turn-push _ to s
 turn-entries : (from count to : ℕ) (s : SequencePaxos) → 0 < to → Turn false (leb largest (counter_of to s)) to s (new_accept_decide from count to s)
 unfolding new_accept_decide push_accept_decide
 turn-entries from count to s h =
-    let t = set_latest_of to (At (next_place s)) s in
-    let x = turn-then (turn-place to (set_latest (At (next_place s))) s h) (turn-counter to t h) in
+    let t = set_latest_of to (Some (next_place s)) s in
+    let x = turn-then (turn-place to (set_latest (Some (next_place s))) s h) (turn-counter to t h) in
     turn-as refl
-    (or-false (leb largest (counter_of to t)) ∙ kept_in (λ (d : Depot). leb largest d.seq_num.counter) (set_latest (At (next_place s))) (λ d. refl) s.leader_state.depots (to - 1) (to - 1) fresh)
+    (or-false (leb largest (counter_of to t)) ∙ kept_in (λ (d : Depot). leb largest d.seq_num.counter) (set_latest (Some (next_place s))) (λ d. refl) s.leader_state.depots (to - 1) (to - 1) fresh)
     (turn-then x (turn-push _ to (next_seq_num_of to t)))
 
-turn-accept-decide : (from count to : ℕ) (s : SequencePaxos) (x : Latest) → 0 < to → Turn false (is_nothing x && leb largest (counter_of to s)) to s (accept_decide_by from count to x s)
-turn-accept-decide from count to s (At at) h = turn-join from count to at s
-turn-accept-decide from count to s Nothing h = turn-entries from count to s h
+turn-accept-decide : (from count to : ℕ) (s : SequencePaxos) (x : Option ℕ) → 0 < to → Turn false (is_nothing x && leb largest (counter_of to s)) to s (accept_decide_by from count to x s)
+turn-accept-decide from count to s (Some at) h = turn-join from count to at s
+turn-accept-decide from count to s None h = turn-entries from count to s h
 
 turn-told : (to : ℕ) (s : SequencePaxos) → 0 < to → Turn false (leb largest (counter_of to s)) to s (push_decide to (next_seq_num_of to s))
 unfolding push_decide
 turn-told to s h = turn-as refl (or-false (leb largest (counter_of to s))) (turn-then (turn-counter to s h) (turn-push _ to (next_seq_num_of to s)))
 
-turn-decide : (to : ℕ) (s : SequencePaxos) (x : Latest) → 0 < to → Turn false (is_nothing x && leb largest (counter_of to s)) to s (decide_by to x s)
-turn-decide to s (At at) h = turn-join 0 0 to at s
-turn-decide to s Nothing h = turn-told to s h
+turn-decide : (to : ℕ) (s : SequencePaxos) (x : Option ℕ) → 0 < to → Turn false (is_nothing x && leb largest (counter_of to s)) to s (decide_by to x s)
+turn-decide to s (Some at) h = turn-join 0 0 to at s
+turn-decide to s None h = turn-told to s h
 
 -- by what is sent, to a depot with such a place: the flags that it raises
 abbrev pub unfit_by : Each → Depot → Ballot → PromiseMetaData → ℕ → Bool

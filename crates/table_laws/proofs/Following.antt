@@ -1,4 +1,5 @@
 -- The flags of each handler of a follower, in words.
+use Rattle.std.specs.Prelude.{Option, None, Some}
 use Prim.Native.Nat.{ℕ, ◌+◌, ◌<◌, ◌≤◌, min}
 use mathlib.Core.Path.{◌≡◌, refl, ap, sym, ◌∙◌}
 use mathlib.Core.Logic.{◌⊎◌, inl, inr, ◌↔◌}
@@ -9,9 +10,11 @@ use borrow.Author.Tests.{ltb-true, ltb-false, lt-ltb, le-ltb, eqb-true, eqb-fals
 use Rattle.base.proofs.Tests.{not-both}
 use Rattle.base.specs.Limits.{max_log, largest}
 use Rattle.ballot.specs.Ballot.{compare_of, above, same}
+use Rattle.paxos_box.specs.declared.AcceptedAt.{AcceptedAt}
+use Rattle.paxos_box.specs.declared.CachedPromise.{CachedPromise}
 use Rattle.ballot.specs.declared.Ballot.{Ballot}
-use Rattle.ballot.specs.declared.Order.{Order}
-use Rattle.ballot.specs.declared.Order.TheVariants.{Less, Equal, Greater}
+use Rattle.std.specs.declared.cmp.Ordering.{Ordering}
+use Rattle.std.specs.declared.cmp.Ordering.TheVariants.{Less, Equal, Greater}
 use Rattle.ballot.proofs.Laws.{same-eq, same_refl}
 use Rattle.sequence.specs.Sequence.{status_of}
 use Rattle.sequence.specs.declared.SequenceNumber.{SequenceNumber}
@@ -19,17 +22,11 @@ use Rattle.sequence.proofs.Laws.{same-outdated}
 use Rattle.sequence.specs.declared.MessageStatus.{MessageStatus}
 use Rattle.sequence.specs.declared.MessageStatus.TheVariants.{Expected, DroppedPreceding, Outdated}
 use Rattle.leader_state.specs.declared.LogSync.{LogSync}
-use Rattle.leader_state.specs.declared.HeldSync.{HeldSync}
-use Rattle.leader_state.specs.declared.HeldSync.TheVariants.{Nothing, Held}
 use Rattle.messages.specs.declared.Prepare.{Prepare}
 use Rattle.messages.specs.declared.AcceptSync.{AcceptSync}
 use Rattle.messages.specs.declared.AcceptDecide.{AcceptDecide}
 use Rattle.messages.specs.declared.Decide.{Decide}
 use Rattle.paxos_box.specs.declared.SequencePaxos.{SequencePaxos}
-use Rattle.paxos_box.specs.declared.CachedMessage.{CachedMessage}
-use Rattle.paxos_box.specs.declared.CachedMessage.TheVariants as cached
-use Rattle.paxos_box.specs.declared.AcceptedMeta.{AcceptedMeta}
-use Rattle.paxos_box.specs.declared.AcceptedMeta.TheVariants as meta
 use Rattle.paxos_box.specs.declared.LogOp.TheVariants.{PutGiven}
 use Rattle.paxos_box.specs.declared.Source.TheVariants.{Buffered}
 use Rattle.paxos_box.specs.declared.Phase.{Phase}
@@ -58,37 +55,37 @@ clear-reconnected pid s c =
 -- Prepare
 
 -- the sync that a Promise would bring starts past a log's end
-start_past : HeldSync → ℕ → Bool
-start_past (Held x) len = ltb len x.sync_idx
-start_past Nothing len = false
+start_past : Option LogSync → ℕ → Bool
+start_past (Some x) len = ltb len x.sync_idx
+start_past None len = false
 
 -- only the branch that builds from the leader's decided index can
 promised-past : (m : Prepare) (s : SequencePaxos) → start_past (promised_sync m s) (log_length s) ≡ (above s.internal_storage.accepted_round m.n_accepted && ltb (log_length s) m.decided_idx)
 unfolding promised_sync start_past
 promised-past m s = go (above s.internal_storage.accepted_round m.n_accepted) (same s.internal_storage.accepted_round m.n_accepted) (ltb m.accepted_idx (log_length s)) refl
   where
-    go : (a b c : Bool) → ltb m.accepted_idx (log_length s) ≡ c → start_past (cond a (log_from m.decided_idx s) (cond b (cond c (log_from m.accepted_idx s) Nothing) Nothing)) (log_length s) ≡ (a && ltb (log_length s) m.decided_idx)
+    go : (a b c : Bool) → ltb m.accepted_idx (log_length s) ≡ c → start_past (cond a (log_from m.decided_idx s) (cond b (cond c (log_from m.accepted_idx s) None) None)) (log_length s) ≡ (a && ltb (log_length s) m.decided_idx)
     go true b c e = refl
     go false true true e = le-ltb (log_length s) m.accepted_idx (omega (arith, ltb-true m.accepted_idx (log_length s) e))
     go false true false e = refl
     go false false c e = refl
 
 -- what is told raises the flag where that sync is built from past the log's end
-raised-build : (x : HeldSync) (s : SequencePaxos) → s.plan.unfit ≡ false → (build_fits x s).plan.unfit ≡ start_past x (log_length s)
+raised-build : (x : Option LogSync) (s : SequencePaxos) → s.plan.unfit ≡ false → (build_fits x s).plan.unfit ≡ start_past x (log_length s)
 unfolding sync_fits start_past
-raised-build (Held x) s e = go (ltb (log_length s) x.sync_idx)
+raised-build (Some x) s e = go (ltb (log_length s) x.sync_idx)
   where
     go : (b : Bool) → (cond b (unfit s) s).plan.unfit ≡ b
     go true = refl
     go false = e
-raised-build Nothing s e = e
+raised-build None s e = e
 
-below-build : (x : HeldSync) (s : SequencePaxos) → s.plan.top ≡ false → (build_fits x s).plan.top ≡ false
+below-build : (x : Option LogSync) (s : SequencePaxos) → s.plan.top ≡ false → (build_fits x s).plan.top ≡ false
 unfolding sync_fits
-below-build (Held x) s e = either (λ (r : SequencePaxos). r.plan.top ≡ false) (ltb (log_length s) x.sync_idx) (unfit s) s (λ f. e) (λ f. e)
-below-build Nothing s e = e
+below-build (Some x) s e = either (λ (r : SequencePaxos). r.plan.top ≡ false) (ltb (log_length s) x.sync_idx) (unfit s) s (λ f. e) (λ f. e)
+below-build None s e = e
 
-tell-says : (U : Type 0) (from : ℕ) (x : HeldSync) (s : SequencePaxos) → Unflagged s → (start_past x (log_length s) ≡ true) ↔ U → Says U ⊥ (tell_promise from x s)
+tell-says : (U : Type 0) (from : ℕ) (x : Option LogSync) (s : SequencePaxos) → Unflagged s → (start_past x (log_length s) ≡ true) ↔ U → Says U ⊥ (tell_promise from x s)
 unfolding tell_promise cache_promise
 tell-says U from x s c h = says-push U ⊥ _ (cache_promise x (build_fits x s)) (record { unfit = (λ e. h.0 (sym (raised-build x s c.fit) ∙ e), λ u. raised-build x s c.fit ∙ h.1 u); top = λ k. ((λ e. not-both {b = (build_fits x s).plan.top} e (below-build x s c.below)), λ b. absurd b) })
 
@@ -150,7 +147,7 @@ says-by-ballot U T n taken s c f g h = by (compare_of s.internal_storage.promise
     unequal : n ≡ p → same p n ≡ false → ⊥
     unequal e k = not-both {b = same p n} (rw e (same_refl p)) k
 
-    by : (o : Order) → compare_of p n ≡ o → Says U T (by_ballot o n taken s)
+    by : (o : Ordering) → compare_of p n ≡ o → Says U T (by_ballot o n taken s)
     by Equal e = h (sym (same-eq p n (rw e)))
     by Greater e = says_none U T (not_accepted n s) (clear-push _ s c) (λ u. unequal (f u) (rw e)) (λ t. unequal (g t) (rw e))
     by Less e = says_none U T (reconnected_of n.pid s) (clear-reconnected n.pid s c) (λ u. unequal (f u) (rw e)) (λ t. unequal (g t) (rw e))
@@ -201,11 +198,11 @@ clear-forward s c =
 
 clear-accepted : (n : Ballot) (idx to : ℕ) (s : SequencePaxos) → Unflagged s → Unflagged (send_accepted n idx to s)
 unfolding send_accepted
-clear-accepted n idx to s c = clear-push _ (set_meta (meta.At (record { n = n; at = next_place s })) s) c
+clear-accepted n idx to s c = clear-push _ (set_meta (Some (record { n = n; at = next_place s })) s) c
 
 clear-put : (m : AcceptSync) (count : ℕ) (s : SequencePaxos) → Unflagged s → Unflagged (acceptsync_put m count s)
 unfolding acceptsync_put sync_log
-clear-put m count s c = clear-forward (sync_log m.n m.decided_idx (sync_end (given_sync m count)) (PutGiven (given_sync m count)) (set_cached cached.Nothing s)) c
+clear-put m count s c = clear-forward (sync_log m.n m.decided_idx (sync_end (given_sync m count)) (PutGiven (given_sync m count)) (set_cached None s)) c
 
 clear-following : (q : SequenceNumber) (s : SequencePaxos) → Unflagged s → Unflagged (following q s)
 unfolding following
@@ -265,9 +262,9 @@ clear-reply : (n : Ballot) (idx : ℕ) (s : SequencePaxos) → Unflagged s → U
 unfolding reply_accepted
 clear-reply n idx s c = by (latest_accepted n s)
   where
-    by : (x : AcceptedMeta) → Unflagged (reply_by x n idx s)
-    by (meta.At x) = clear-push _ s c
-    by meta.Nothing = clear-accepted n idx n.pid s c
+    by : (x : Option AcceptedAt) → Unflagged (reply_by x n idx s)
+    by (Some x) = clear-push _ s c
+    by None = clear-accepted n idx n.pid s c
 
 clear-append : (n : Ballot) (decided count : ℕ) (s : SequencePaxos) → Unflagged s → Unflagged (acceptdecide_taken n decided count s)
 unfolding acceptdecide_taken append_given
@@ -363,12 +360,12 @@ pub clear-resend-follower : (s : SequencePaxos) → Unflagged s → Unflagged (r
 unfolding resend_messages_follower
 clear-resend-follower s c = by s.state.phase
   where
-    from-cache : (x : CachedMessage) → Unflagged (resend_cached x s)
-    from-cache (cached.Held p) = clear-push _ s c
-    from-cache cached.Nothing = clear-requests (peers_of s.config) (recovering s) c
+    from-cache : (x : Option CachedPromise) → Unflagged (resend_cached x s)
+    from-cache (Some p) = clear-push _ s c
+    from-cache None = clear-requests (peers_of s.config) (recovering s) c
 
     by : (p : Phase) → Unflagged (resend_in p s)
-    by phase.Prepare = from-cache s.cached_promise_message.message
+    by phase.Prepare = from-cache s.cached_promise_message
     by phase.Recover = clear-requests (peers_of s.config) s c
     by phase.Accept = c
     by phase.None = c

@@ -1,4 +1,5 @@
 -- The flags of each handler of a leader but Promise, in words.
+use Rattle.std.specs.Prelude.{Option, None, Some}
 use Prim.Native.Nat.{ℕ, ◌-◌, ◌≤◌}
 use mathlib.Core.Path.{◌≡◌, refl, ap, sym, ◌∙◌}
 use mathlib.Core.Logic.{◌⊎◌, inl, inr, ◌↔◌}
@@ -16,8 +17,6 @@ use Rattle.ballot.proofs.Laws.{same-eq, same_refl}
 use Rattle.leader_state.specs.declared.Depot.{Depot}
 use Rattle.leader_state.specs.declared.LeaderState.{LeaderState}
 use Rattle.leader_state.specs.declared.PromiseState.TheVariants.{NotPromised}
-use Rattle.leader_state.specs.declared.Latest.{Latest}
-use Rattle.leader_state.specs.declared.Latest.TheVariants as latest
 use Rattle.leader_state.specs.State.{fresh, depot_of, with_depot, set_accepted, set_promise_state}
 use Rattle.leader_state.specs.Promises.{is_promised}
 use Rattle.leader_state.specs.Places.{is_follower, preparable_peers}
@@ -55,7 +54,7 @@ clear-leader n s c =
 
 clear-prepare : (from : ℕ) (s : SequencePaxos) → Unflagged s → Unflagged (prepare_again from s)
 unfolding prepare_again send_prepare
-clear-prepare from s c = clear-push _ (set_latest_of from latest.Nothing (on_depot from (set_promise_state NotPromised) s)) c
+clear-prepare from s c = clear-push _ (set_latest_of from None (on_depot from (set_promise_state NotPromised) s)) c
 
 pub clear-prepare-req : (n : Ballot) (from : ℕ) (s : SequencePaxos) → Unflagged s → Unflagged (handle_prepare_req n from s)
 unfolding handle_prepare_req
@@ -102,14 +101,14 @@ follower-kept own idx pid l =
 
 -- a new message goes to this depot, and its counter is at the top
 abbrev NewTop : Depot → Bool → Type 0
-NewTop d on = (stands on d.latest ≡ latest.Nothing) × AtTop d.seq_num.counter
+NewTop d on = (stands on d.latest ≡ None) × AtTop d.seq_num.counter
 
 new_top : Depot → Bool → Bool
 new_top d on = is_nothing (stands on d.latest) && leb largest d.seq_num.counter
 
-nothing_is : (x : Latest) → is_nothing x ≡ true → x ≡ latest.Nothing
-nothing_is latest.Nothing e = refl
-nothing_is (latest.At at) e = absurd (not-both {b = false} e refl)
+nothing_is : (x : Option ℕ) → is_nothing x ≡ true → x ≡ None
+nothing_is None e = refl
+nothing_is (Some at) e = absurd (not-both {b = false} e refl)
 
 new-top : (d : Depot) (on : Bool) → new_top d on ≡ true → NewTop d on
 unfolding new_top

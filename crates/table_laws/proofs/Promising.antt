@@ -1,4 +1,5 @@
 -- The flags of a Promise's handlers, in words: in (Leader, Prepare), at the read quorum, and in (Leader, Accept).
+use Rattle.std.specs.Prelude.{Option, None, Some}
 use Prim.Native.Nat.{ℕ, ◌+◌, ◌-◌, ◌≤◌, ◌<◌}
 use mathlib.Core.Path.{◌≡◌, refl, ap, sym, subst, ◌∙◌}
 use mathlib.Core.Logic.{◌⊎◌, inl, inr, ◌↔◌}
@@ -16,8 +17,6 @@ use Rattle.quorum.specs.declared.Configuration.{Configuration}
 use Rattle.leader_state.specs.declared.Depot.{Depot}
 use Rattle.leader_state.specs.declared.LeaderState.{LeaderState}
 use Rattle.leader_state.specs.declared.LogSync.{LogSync}
-use Rattle.leader_state.specs.declared.HeldSync.{HeldSync}
-use Rattle.leader_state.specs.declared.HeldSync.TheVariants.{Nothing, Held}
 use Rattle.leader_state.specs.declared.PromiseMetaData.{PromiseMetaData}
 use Rattle.leader_state.specs.declared.PromiseState.{PromiseState}
 use Rattle.leader_state.specs.declared.PromiseState.TheVariants.{NotPromised, Promised, PromisedHigher}
@@ -135,18 +134,18 @@ all-synced u d h =
 -- The best promise's sync
 
 -- it may not be put on, or the highest decided index passes the log that it leaves
-abbrev pub Bad : HeldSync → ℕ → ℕ → ℕ → ℕ → ℕ → Type 0
+abbrev pub Bad : Option LogSync → ℕ → ℕ → ℕ → ℕ → ℕ → Type 0
 Bad sync change brings len decided highest = BestUnfit sync change brings len decided ⊎ (left_by sync len < highest)
 
 -- bad, and unfit; or not, and the log is as long as it leaves it
-pub data Put (sync : HeldSync) (change brings len decided highest : ℕ) (a b a₁ b₁ : Bool) (len₁ : ℕ) : Type 0 where
+pub data Put (sync : Option LogSync) (change brings len decided highest : ℕ) (a b a₁ b₁ : Bool) (len₁ : ℕ) : Type 0 where
   bad : Bad sync change brings len decided highest → a₁ ≡ true → b₁ ≡ b → Put sync change brings len decided highest a b a₁ b₁ len₁
   good : (Bad sync change brings len decided highest → ⊥) → a₁ ≡ a → b₁ ≡ b → len₁ ≡ left_by sync len → Put sync change brings len decided highest a b a₁ b₁ len₁
 
-abbrev pub PutOn : HeldSync → ℕ → ℕ → ℕ → SequencePaxos → SequencePaxos → Type 0
+abbrev pub PutOn : Option LogSync → ℕ → ℕ → ℕ → SequencePaxos → SequencePaxos → Type 0
 PutOn sync change brings highest s u = Put sync change brings (log_length s) (decided_index s) highest s.plan.unfit s.plan.top u.plan.unfit u.plan.top (log_length u)
 
-put-leader : (sync : HeldSync) (change brings highest : ℕ) (op : LogOp) (s : SequencePaxos) → (BestUnfit sync change brings (log_length s) (decided_index s) → ⊥) → PutOn sync change brings highest s (leader_syncs highest (left_by sync (log_length s)) op s)
+put-leader : (sync : Option LogSync) (change brings highest : ℕ) (op : LogOp) (s : SequencePaxos) → (BestUnfit sync change brings (log_length s) (decided_index s) → ⊥) → PutOn sync change brings highest s (leader_syncs highest (left_by sync (log_length s)) op s)
 unfolding sync_log
 put-leader sync change brings highest op s h =
     let end = left_by sync (log_length s) in
@@ -158,16 +157,16 @@ put-leader sync change brings highest op s h =
     none e (inl x) = h x
     none e (inr k) = not-both {b = ltb (left_by sync (log_length s)) highest} (lt-ltb (left_by sync (log_length s)) highest k) e
 
-put-held : (x : LogSync) (brought : Bool) (highest : ℕ) (s : SequencePaxos) → PutOn (Held x) (change_of brought s) s.leader_state.max_promise.meta.decided_idx highest s (sync_held x brought highest s)
+put-held : (x : LogSync) (brought : Bool) (highest : ℕ) (s : SequencePaxos) → PutOn (Some x) (change_of brought s) s.leader_state.max_promise.meta.decided_idx highest s (sync_held x brought highest s)
 unfolding sync_held
 put-held x brought highest s =
     let change = change_of brought s in
     let brings = s.leader_state.max_promise.meta.decided_idx in
     let test = sync_unfit x change brings s in
     let exactly = put-exactly x change brings s in
-    either (PutOn (Held x) change brings highest s) test (unfit s) (leader_syncs highest (sync_end x) (put_op brought x) s)
+    either (PutOn (Some x) change brings highest s) test (unfit s) (leader_syncs highest (sync_end x) (put_op brought x) s)
     (λ e. bad (inl (exactly.0 e)) refl refl)
-    (λ e. put-leader (Held x) change brings highest (put_op brought x) s (λ u. not-both {b = test} (exactly.1 u) e))
+    (λ e. put-leader (Some x) change brings highest (put_op brought x) s (λ u. not-both {b = test} (exactly.1 u) e))
 
 put-best : (brought : Bool) (s : SequencePaxos) → PutOn s.leader_state.max_promise.sync (change_of brought s) s.leader_state.max_promise.meta.decided_idx (max_decided s.config.depots s.leader_state) s (sync_with_best brought s)
 unfolding sync_with_best
@@ -176,14 +175,14 @@ put-best brought s = by s.leader_state.max_promise.sync
     highest : ℕ
     highest = max_decided s.config.depots s.leader_state
 
-    by : (x : HeldSync) → PutOn x (change_of brought s) s.leader_state.max_promise.meta.decided_idx highest s (sync_by x brought highest s)
-    by (Held x) = put-held x brought highest s
-    by Nothing = put-leader Nothing (change_of brought s) s.leader_state.max_promise.meta.decided_idx highest Keep s (λ b. b)
+    by : (x : Option LogSync) → PutOn x (change_of brought s) s.leader_state.max_promise.meta.decided_idx highest s (sync_by x brought highest s)
+    by (Some x) = put-held x brought highest s
+    by None = put-leader None (change_of brought s) s.leader_state.max_promise.meta.decided_idx highest Keep s (λ b. b)
 
 -- The read quorum
 
 -- from the sync's outcome and the followers' to what is said, over the numbers alone
-module _ (sync : HeldSync) (change brings len decided highest : ℕ) (a b a₁ b₁ a₂ b₂ : Bool) (len₁ : ℕ) (B : ℕ → Type 0) (ca : a ≡ false) where
+module _ (sync : Option LogSync) (change brings len decided highest : ℕ) (a b a₁ b₁ a₂ b₂ : Bool) (len₁ : ℕ) (B : ℕ → Type 0) (ca : a ≡ false) where
   quorum-unfit : Put sync change brings len decided highest a b a₁ b₁ len₁ → (a₂ ≡ true) ↔ ((a₁ ≡ true) ⊎ B len₁) → (a₂ ≡ true) ↔ (Bad sync change brings len decided highest ⊎ B (left_by sync len))
   quorum-unfit (bad x e f) h = ((λ k. inl x), (λ k. h.1 (inl e)))
   quorum-unfit (good none e f l) h = ((λ k. there (h.0 k)), back)
@@ -241,16 +240,16 @@ module _ (brought : Bool) (s : SequencePaxos) (c : Unflagged s) (d : s.config.de
       some e (inr x) = x
 
 -- A Promise: a sync brought that ends past 512
-brings-exactly : (x : HeldSync) → (brings_past x ≡ true) ↔ EndsPast x
+brings-exactly : (x : Option LogSync) → (brings_past x ≡ true) ↔ EndsPast x
 unfolding ends_past
-brings-exactly (Held x) = (ltb-true max_log (sync_end x), lt-ltb max_log (sync_end x))
-brings-exactly Nothing = ((λ e. not-both {b = false} e refl), (λ b. absurd b))
+brings-exactly (Some x) = (ltb-true max_log (sync_end x), lt-ltb max_log (sync_end x))
+brings-exactly None = ((λ e. not-both {b = false} e refl), (λ b. absurd b))
 
 -- a promise kept changes no depot's session
 session-kept : (m : PromiseMetaData) (l : LeaderState) (pid : ℕ) → (depot_of pid (with_depot m.pid (set_promise_state (Promised m)) l)).seq_num.session ≡ (depot_of pid l).seq_num.session
 session-kept m l pid = kept_in (λ (d : Depot). d.seq_num.session) (set_promise_state (Promised m)) (λ d. refl) l.depots (m.pid - 1) (pid - 1) fresh
 
-clear_kept : (b : Bool) (sync : HeldSync) (s : SequencePaxos) → Unflagged s → Unflagged (keep_sync b sync s)
+clear_kept : (b : Bool) (sync : Option LogSync) (s : SequencePaxos) → Unflagged s → Unflagged (keep_sync b sync s)
 clear_kept true sync s c = c
 clear_kept false sync s c = c
 
@@ -259,19 +258,19 @@ raised-alone : (a a₁ t t₁ : Bool) → a₁ ≡ (a || t) → a ≡ false → 
 raised-alone a a₁ t t₁ e p q = e ∙ (rw p q)
 
 -- nor does it change what is seen of the lists
-change-kept : (b : Bool) (m : PromiseMetaData) (sync : HeldSync) (s : SequencePaxos) → change_of b (keep_promise m sync true s) ≡ change_of b s
+change-kept : (b : Bool) (m : PromiseMetaData) (sync : Option LogSync) (s : SequencePaxos) → change_of b (keep_promise m sync true s) ≡ change_of b s
 change-kept true m sync s = refl
 change-kept false m sync s = refl
 
 -- in (Leader, Accept): the sender is synced
 module _ (m : PromiseMetaData) (s : SequencePaxos) (c : Unflagged s) (p : 0 < m.pid) (row : m.pid ≤ length s.leader_state.depots) where
-  sender-promised : the_depot m.pid (keep_promise m Nothing false s) ≡ set_promise_state (Promised m) (the_depot m.pid s)
+  sender-promised : the_depot m.pid (keep_promise m None false s) ≡ set_promise_state (Promised m) (the_depot m.pid s)
   sender-promised = get_or-set_same s.leader_state.depots (m.pid - 1) (set_promise_state (Promised m) (the_depot m.pid s)) fresh (omega arith)
 
   says-sender : Says (log_length s < sync_start_of m s) (AtTop (the_depot m.pid s).seq_num.session) (handle_promise_accept m s)
   unfolding handle_promise_accept
   says-sender =
-      let k = keep_promise m Nothing false s in
+      let k = keep_promise m None false s in
       let r = acc_sync_to m.pid k in
       let x = turn_one each.AcceptSync m.pid k p in
       let from = sync_start_of m s in
@@ -295,7 +294,7 @@ module _ (m : Promise) (count from : ℕ) (s : SequencePaxos) (c : Unflagged s) 
   abbrev report : PromiseMetaData
   report = report_of m from
 
-  abbrev sync : HeldSync
+  abbrev sync : Option LogSync
   sync = brought_by m.log_sync count
 
   -- what is said at the read quorum, of the record with this Promise kept

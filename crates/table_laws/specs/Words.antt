@@ -1,5 +1,5 @@
 -- Refusals 4 and 7 in document 01's words ("When a box says no", and "Unfit:" after it, its part 'only where the message would be taken'), by the event and the box as found.
-use Rattle.std.specs.Prelude.{ℕ, ◌+◌, ◌≤◌, ◌<◌, ◌≡◌, ◌⊎◌, Bool, true}
+use Rattle.std.specs.Prelude.{ℕ, ◌+◌, ◌≤◌, ◌<◌, ◌≡◌, ◌⊎◌, Bool, true, Option, None, Some}
 use Rattle.base.specs.Limits.{max_log, largest}
 use Rattle.ballot.specs.Ballot.{above}
 use Rattle.sequence.specs.Sequence.{status_of}
@@ -7,11 +7,8 @@ use Rattle.sequence.specs.declared.SequenceNumber.{SequenceNumber}
 use Rattle.sequence.specs.declared.MessageStatus.TheVariants.{Expected}
 use Rattle.leader_state.specs.declared.LeaderState.{LeaderState}
 use Rattle.leader_state.specs.declared.LogSync.{LogSync}
-use Rattle.leader_state.specs.declared.HeldSync.{HeldSync}
-use Rattle.leader_state.specs.declared.HeldSync.TheVariants.{Nothing, Held}
 use Rattle.leader_state.specs.declared.PromiseState.{PromiseState}
 use Rattle.leader_state.specs.declared.PromiseState.TheVariants.{NotPromised, Promised, PromisedHigher}
-use Rattle.leader_state.specs.declared.Latest.TheVariants as latest
 use Rattle.leader_state.specs.State.{depot_of}
 use Rattle.leader_state.specs.Promises.{beats_best, promise_kept, max_decided, sync_start}
 use Rattle.leader_state.specs.Places.{is_follower}
@@ -107,9 +104,9 @@ abbrev pub Completes : Promise → ℕ → ℕ → SequencePaxos → Type 0
 Completes m count from s = PromiseIn LeaderPrepare m s × (reached (report_of m from) (brought_by m.log_sync count) true s ≡ true)
 
 -- the log's length once the best promise's sync, if it has one, is on; and with the buffered entries that fit, which join then
-abbrev pub left_by : HeldSync → ℕ → ℕ
-left_by (Held x) len = sync_end x
-left_by Nothing len = len
+abbrev pub left_by : Option LogSync → ℕ → ℕ
+left_by (Some x) len = sync_end x
+left_by None len = len
 
 abbrev pub with_buffered : ℕ → SequencePaxos → ℕ
 with_buffered len s = len + kept_of s.buffered_proposals len
@@ -117,9 +114,9 @@ with_buffered len s = len + kept_of s.buffered_proposals len
 -- Unfit: refusal 4
 
 -- a sync brought that ends past 512
-abbrev pub EndsPast : HeldSync → Type 0
-EndsPast (Held x) = max_log < sync_end x
-EndsPast Nothing = ⊥
+abbrev pub EndsPast : Option LogSync → Type 0
+EndsPast (Some x) = max_log < sync_end x
+EndsPast None = ⊥
 
 -- at the step that puts a sync on, to a log of that length and decided index: one that ends past 512, starts past that log, changes a place below the decided index
 -- (`change` is the first place it changes), or ends below that index or the decided index it brings
@@ -131,9 +128,9 @@ pub data PutUnfit (x : LogSync) (change brings len decided : ℕ) : Type 0 where
   ends-below-brought : sync_end x < brings → PutUnfit x change brings len decided
 
 -- the same of the best promise's sync, if it has one
-abbrev pub BestUnfit : HeldSync → ℕ → ℕ → ℕ → ℕ → Type 0
-BestUnfit (Held x) change brings len decided = PutUnfit x change brings len decided
-BestUnfit Nothing change brings len decided = ⊥
+abbrev pub BestUnfit : Option LogSync → ℕ → ℕ → ℕ → ℕ → Type 0
+BestUnfit (Some x) change brings len decided = PutUnfit x change brings len decided
+BestUnfit None change brings len decided = ⊥
 
 -- a log sync to be built for a depot that has promised so, from past a log's end
 abbrev pub BuiltPast : PromiseState → LeaderState → ℕ → Type 0
@@ -194,7 +191,7 @@ Unfits event.Restart count s = ⊥
 
 -- a promised follower whose counter is to be raised is at the top: it has no remembered AcceptDecide, or none stands at its position, so that a new message goes to it
 abbrev pub CounterTop : SequencePaxos → Type 0
-CounterTop s = SomeFollower s.config.depots s.leader_state (λ pid. (latest_accdec pid s ≡ latest.Nothing) × AtTop (the_depot pid s).seq_num.counter)
+CounterTop s = SomeFollower s.config.depots s.leader_state (λ pid. (latest_accdec pid s ≡ None) × AtTop (the_depot pid s).seq_num.counter)
 
 -- a proposal in (Leader, Accept) goes to every promised follower
 abbrev pub ProposalTop : SequencePaxos → Type 0

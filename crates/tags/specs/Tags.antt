@@ -1,24 +1,16 @@
 -- The tag of each variant that a record holds, and what the variant holds; where it holds nothing, zeros.
-use Rattle.std.specs.Prelude.{ℕ}
+use Rattle.std.specs.Prelude.{ℕ, Option, None, Some}
 use Rattle.ballot.specs.Ballot.{default}
 use Rattle.leader_state.specs.State.{no_best}
 use Rattle.leader_state.specs.declared.PromiseState.{PromiseState}
 use Rattle.leader_state.specs.declared.PromiseState.TheVariants.{NotPromised, Promised, PromisedHigher}
 use Rattle.leader_state.specs.declared.PromiseMetaData.{PromiseMetaData}
-use Rattle.leader_state.specs.declared.Latest.{Latest}
-use Rattle.leader_state.specs.declared.Latest.TheVariants as latest
-use Rattle.leader_state.specs.declared.HeldSync.{HeldSync}
-use Rattle.leader_state.specs.declared.HeldSync.TheVariants as held
 use Rattle.leader_state.specs.declared.LogSync.{LogSync}
 use Rattle.paxos_box.specs.declared.Role.{Role}
 use Rattle.paxos_box.specs.declared.Role.TheVariants as role
 use Rattle.paxos_box.specs.declared.Phase.{Phase}
 use Rattle.paxos_box.specs.declared.Phase.TheVariants as phase
-use Rattle.paxos_box.specs.declared.AcceptedMeta.{AcceptedMeta}
-use Rattle.paxos_box.specs.declared.AcceptedMeta.TheVariants as meta
 use Rattle.paxos_box.specs.declared.AcceptedAt.{AcceptedAt}
-use Rattle.paxos_box.specs.declared.CachedMessage.{CachedMessage}
-use Rattle.paxos_box.specs.declared.CachedMessage.TheVariants as cached
 use Rattle.paxos_box.specs.declared.CachedPromise.{CachedPromise}
 
 abbrev pub promise_tag : PromiseState → ℕ
@@ -31,21 +23,21 @@ promise_meta NotPromised = no_best.meta
 promise_meta (Promised m) = m
 promise_meta PromisedHigher = no_best.meta
 
-abbrev pub latest_tag : Latest → ℕ
-latest_tag latest.Nothing = 0
-latest_tag (latest.At i) = 1
+abbrev pub latest_tag : Option ℕ → ℕ
+latest_tag None = 0
+latest_tag (Some i) = 1
 
-abbrev pub latest_at : Latest → ℕ
-latest_at latest.Nothing = 0
-latest_at (latest.At i) = i
+abbrev pub latest_at : Option ℕ → ℕ
+latest_at None = 0
+latest_at (Some i) = i
 
-abbrev pub held_tag : HeldSync → ℕ
-held_tag held.Nothing = 0
-held_tag (held.Held x) = 1
+abbrev pub held_tag : Option LogSync → ℕ
+held_tag None = 0
+held_tag (Some x) = 1
 
-abbrev pub held_sync : HeldSync → LogSync
-held_sync held.Nothing = record { sync_idx = 0; len = 0 }
-held_sync (held.Held x) = x
+abbrev pub held_sync : Option LogSync → LogSync
+held_sync None = record { sync_idx = 0; len = 0 }
+held_sync (Some x) = x
 
 abbrev pub role_tag : Role → ℕ
 role_tag role.Follower = 0
@@ -57,19 +49,19 @@ phase_tag phase.Accept = 1
 phase_tag phase.Recover = 2
 phase_tag phase.None = 3
 
-abbrev pub accepted_tag : AcceptedMeta → ℕ
-accepted_tag meta.Nothing = 0
-accepted_tag (meta.At a) = 1
+abbrev pub accepted_tag : Option AcceptedAt → ℕ
+accepted_tag None = 0
+accepted_tag (Some a) = 1
 
-abbrev pub accepted_at : AcceptedMeta → AcceptedAt
-accepted_at meta.Nothing = record { n = default; at = 0 }
-accepted_at (meta.At a) = a
+abbrev pub accepted_at : Option AcceptedAt → AcceptedAt
+accepted_at None = record { n = default; at = 0 }
+accepted_at (Some a) = a
 
-abbrev pub cached_tag : CachedMessage → ℕ
-cached_tag cached.Nothing = 0
-cached_tag (cached.Held p) = 1
+abbrev pub cached_tag : Option CachedPromise → ℕ
+cached_tag None = 0
+cached_tag (Some p) = 1
 
-abbrev pub cached_promise : CachedMessage → CachedPromise
-cached_promise cached.Nothing =
-    record { n = default; n_accepted = default; decided_idx = 0; accepted_idx = 0; sync = held.Nothing }
-cached_promise (cached.Held p) = p
+abbrev pub cached_promise : Option CachedPromise → CachedPromise
+cached_promise None =
+    record { n = default; n_accepted = default; decided_idx = 0; accepted_idx = 0; sync = None }
+cached_promise (Some p) = p

@@ -6,8 +6,8 @@ ghost use Rattle.tags.specs.Tags.{promise_tag, promise_meta, latest_tag, latest_
 ghost use Rattle.tags.specs.Variants.{promise_of, latest_of, held_of, role_of, phase_of, accepted_of, cached_of};
 
 use ballot::Ballot;
-use leader_state::{HeldSync, Latest, LogSync, MaxPromise, PromiseMetaData, PromiseState};
-use paxos_box::{AcceptedAt, AcceptedMeta, CachedMessage, CachedPromise, Phase, Role};
+use leader_state::{LogSync, MaxPromise, PromiseMetaData, PromiseState};
+use paxos_box::{AcceptedAt, CachedPromise, Phase, Role};
 
 // Each variant's tag, and what it holds; where it holds nothing, zeros.
 
@@ -33,42 +33,42 @@ pub fn promise_meta(p: PromiseState) -> PromiseMetaData
     }
 }
 
-pub fn latest_tag(l: Latest) -> u64
+pub fn latest_tag(l: Option<usize>) -> u64
     ensures { result ≡ latest_tag l }
 {
     match l {
-        Latest::Nothing => 0,
-        Latest::At(_) => 1,
+        None => 0,
+        Some(_) => 1,
     }
 }
 
-pub fn latest_at(l: Latest) -> usize
+pub fn latest_at(l: Option<usize>) -> usize
     ensures { result ≡ latest_at l }
 {
     match l {
-        Latest::Nothing => 0,
-        Latest::At(at) => at,
+        None => 0,
+        Some(at) => at,
     }
 }
 
-pub fn held_tag(h: HeldSync) -> u64
+pub fn held_tag(h: Option<LogSync>) -> u64
     ensures { result ≡ held_tag h }
 {
     match h {
-        HeldSync::Nothing => 0,
-        HeldSync::Held(_) => 1,
+        None => 0,
+        Some(_) => 1,
     }
 }
 
-pub fn held_sync(h: HeldSync) -> LogSync
+pub fn held_sync(h: Option<LogSync>) -> LogSync
     ensures { result ≡ held_sync h }
 {
     match h {
-        HeldSync::Nothing => LogSync {
+        None => LogSync {
             sync_idx: 0,
             len: 0,
         },
-        HeldSync::Held(x) => x,
+        Some(x) => x,
     }
 }
 
@@ -92,47 +92,47 @@ pub fn phase_tag(p: Phase) -> u64
     }
 }
 
-pub fn accepted_tag(m: AcceptedMeta) -> u64
+pub fn accepted_tag(m: Option<AcceptedAt>) -> u64
     ensures { result ≡ accepted_tag m }
 {
     match m {
-        AcceptedMeta::Nothing => 0,
-        AcceptedMeta::At(_) => 1,
+        None => 0,
+        Some(_) => 1,
     }
 }
 
-pub fn accepted_at(m: AcceptedMeta) -> AcceptedAt
+pub fn accepted_at(m: Option<AcceptedAt>) -> AcceptedAt
     ensures { result ≡ accepted_at m }
 {
     let n = Ballot::default();
     match m {
-        AcceptedMeta::Nothing => AcceptedAt { n, at: 0 },
-        AcceptedMeta::At(a) => a,
+        None => AcceptedAt { n, at: 0 },
+        Some(a) => a,
     }
 }
 
-pub fn cached_tag(m: CachedMessage) -> u64
+pub fn cached_tag(m: Option<CachedPromise>) -> u64
     ensures { result ≡ cached_tag m }
 {
     match m {
-        CachedMessage::Nothing => 0,
-        CachedMessage::Held(_) => 1,
+        None => 0,
+        Some(_) => 1,
     }
 }
 
-pub fn cached_promise(m: CachedMessage) -> CachedPromise
+pub fn cached_promise(m: Option<CachedPromise>) -> CachedPromise
     ensures { result ≡ cached_promise m }
 {
     let none = Ballot::default();
     match m {
-        CachedMessage::Nothing => CachedPromise {
+        None => CachedPromise {
             n: none,
             n_accepted: none,
             decided_idx: 0,
             accepted_idx: 0,
-            sync: HeldSync::Nothing,
+            sync: None,
         },
-        CachedMessage::Held(p) => p,
+        Some(p) => p,
     }
 }
 
@@ -150,22 +150,22 @@ pub fn promise_of(tag: u64, m: PromiseMetaData) -> PromiseState
     PromiseState::PromisedHigher
 }
 
-pub fn latest_of(tag: u64, at: usize) -> Latest
+pub fn latest_of(tag: u64, at: usize) -> Option<usize>
     ensures { result ≡ latest_of tag at }
 {
     if tag == 0 {
-        return Latest::Nothing;
+        return None;
     }
-    Latest::At(at)
+    Some(at)
 }
 
-pub fn held_of(tag: u64, x: LogSync) -> HeldSync
+pub fn held_of(tag: u64, x: LogSync) -> Option<LogSync>
     ensures { result ≡ held_of tag x }
 {
     if tag == 0 {
-        return HeldSync::Nothing;
+        return None;
     }
-    HeldSync::Held(x)
+    Some(x)
 }
 
 pub fn role_of(tag: u64) -> Role
@@ -192,20 +192,20 @@ pub fn phase_of(tag: u64) -> Phase
     Phase::None
 }
 
-pub fn accepted_of(tag: u64, a: AcceptedAt) -> AcceptedMeta
+pub fn accepted_of(tag: u64, a: AcceptedAt) -> Option<AcceptedAt>
     ensures { result ≡ accepted_of tag a }
 {
     if tag == 0 {
-        return AcceptedMeta::Nothing;
+        return None;
     }
-    AcceptedMeta::At(a)
+    Some(a)
 }
 
-pub fn cached_of(tag: u64, p: CachedPromise) -> CachedMessage
+pub fn cached_of(tag: u64, p: CachedPromise) -> Option<CachedPromise>
     ensures { result ≡ cached_of tag p }
 {
     if tag == 0 {
-        return CachedMessage::Nothing;
+        return None;
     }
-    CachedMessage::Held(p)
+    Some(p)
 }

@@ -2,9 +2,7 @@
 #![tactic(auto)]
 
 use ballot::Ballot;
-use messages::{
-    AcceptDecide, AcceptSync, Accepted, Decide, PaxosMsg, Prepare, Promise, PromiseSync,
-};
+use messages::{AcceptDecide, AcceptSync, Accepted, Decide, PaxosMsg, Prepare, Promise};
 use paxos_box::{Phase, Role, State};
 use sequence::SequenceNumber;
 use std::io;
@@ -51,10 +49,10 @@ fn say_prepare(rt: &impl Print, m: Prepare) -> io::Result<()> {
     say_number(rt, b" decided ", m.decided_idx as u64)
 }
 
-fn say_sync(rt: &impl Print, sync: PromiseSync) -> io::Result<()> {
+fn say_sync(rt: &impl Print, sync: Option<usize>) -> io::Result<()> {
     match sync {
-        PromiseSync::Nothing => say(rt, b" no sync"),
-        PromiseSync::From(start) => say_number(rt, b" sync from ", start as u64),
+        None => say(rt, b" no sync"),
+        Some(start) => say_number(rt, b" sync from ", start as u64),
     }
 }
 

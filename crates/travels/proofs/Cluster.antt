@@ -1,4 +1,5 @@
 -- The cluster: before every run; messages are lost; a queue is handed to the links; more is proposed; what the invariant says of decided entries.
+use Rattle.std.specs.Prelude.{None}
 use Prim.Native.Nat.{ℕ, zero, suc, ◌≤◌, ◌<◌}
 use mathlib.Core.Path.{◌≡◌, refl, sym, subst, ◌∙◌}
 use mathlib.Core.Logic.{◌⊎◌, inl, inr, ◌≢◌}
@@ -14,10 +15,8 @@ use Rattle.ballot.specs.Ballot.{same}
 use Rattle.ballot.specs.declared.Ballot.{Ballot}
 use Rattle.ballot.proofs.Laws.{same-eq, default-lowest}
 use Rattle.leader_state.specs.declared.LeaderState.{LeaderState}
-use Rattle.leader_state.specs.declared.Latest.TheVariants as latest
 use Rattle.messages.specs.declared.PaxosMsg.{PaxosMsg}
 use Rattle.messages.specs.declared.PaxosMsg.TheVariants as msg
-use Rattle.paxos_box.specs.declared.AcceptedMeta.TheVariants as meta
 use Rattle.paxos_box.specs.declared.Role.{Role}
 use Rattle.paxos_box.specs.declared.Role.TheVariants.{Leader, Follower}
 use Rattle.paxos_box.specs.declared.Phase.{Phase}
@@ -162,9 +161,9 @@ abbrev pub handed_to : ℕ → List Msg → Links → Links
 handed_to b q link i j = cond (eqb i b) (link i j ++ for_depot j q) (link i j)
 
 abbrev pub emptied : Face → Face
-emptied x = with_queue [] (with_meta meta.Nothing x)
+emptied x = with_queue [] (with_meta None x)
 
-module _ {z : Sizes} {P : ℕ → Type 0} {g : Ghost ℕ} {xs : ℕ → Face} {link : Links} (v : Total z P g xs link) (b : ℕ) (forgot : (t : ℕ) → t < z.depots → (place t (xs b).leader).latest ≡ latest.Nothing) where
+module _ {z : Sizes} {P : ℕ → Type 0} {g : Ghost ℕ} {xs : ℕ → Face} {link : Links} (v : Total z P g xs link) (b : ℕ) (forgot : (t : ℕ) → t < z.depots → (place t (xs b).leader).latest ≡ None) where
   -- what is under way is what it was
   chan-same : (i j : ℕ) → chan (put_face b (emptied (xs b)) xs) (handed_to b (xs b).queue link) i j ≡ chan xs link i j
   unfolding sel

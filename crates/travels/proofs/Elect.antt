@@ -1,4 +1,5 @@
 -- A leader is elected, and takes note of promises, of accepted indexes and of depots that have promised higher.
+use Rattle.std.specs.Prelude.{Option, None, Some}
 use Prim.Native.Nat.{ℕ, ◌+◌, ◌<◌}
 use mathlib.Core.Path.{◌≡◌, refl, sym, ap, subst}
 use mathlib.Core.Logic.{◌⊎◌, inl, inr, ◌≢◌}
@@ -16,9 +17,6 @@ use Rattle.sequence.specs.declared.SequenceNumber.{SequenceNumber}
 use Rattle.leader_state.specs.declared.LeaderState.{LeaderState}
 use Rattle.leader_state.specs.declared.PromiseMetaData.{PromiseMetaData}
 use Rattle.leader_state.specs.declared.PromiseState.TheVariants.{Promised}
-use Rattle.leader_state.specs.declared.HeldSync.TheVariants as held
-use Rattle.leader_state.specs.declared.Latest.{Latest}
-use Rattle.leader_state.specs.declared.Latest.TheVariants as latest
 use Rattle.messages.specs.declared.PaxosMsg.{PaxosMsg}
 use Rattle.messages.specs.declared.PaxosMsg.TheVariants as msg
 use Rattle.paxos_box.specs.declared.State.{State}
@@ -82,7 +80,7 @@ module _ (z : Sizes) (P : ℕ → Type 0) (g : Ghost ℕ) (n : Ballot) (s : g.st
   early-items i j (cons {x = m} p ps) = rw (early-item i j m p) (more (early-items i j ps))
 
 -- nothing is remembered
-pub no-latest : {A : Type 0} {at : ℕ} {l : Latest} → l ≡ latest.Nothing → l ≡ latest.At at → A
+pub no-latest : {A : Type 0} {at : ℕ} {l : Option ℕ} → l ≡ None → l ≡ Some at → A
 no-latest p q = absurd (let w : ◌≡◌ {A = ℕ} 0 1 = cc in omega arith)
 
 -- ---- elected
@@ -94,12 +92,12 @@ pub record Elects (z : Sizes) (b : ℕ) (n : Ballot) (x : Face) (l : LeaderState
   pub own : n.pid ≡ b + 1
   pub round : l.max_promise.meta.n_accepted ≡ x.storage.accepted_round
   pub index : l.max_promise.meta.accepted_idx ≡ length x.log
-  pub none : l.max_promise.sync ≡ held.Nothing
+  pub none : l.max_promise.sync ≡ None
   pub alone : (t : ℕ) (m : PromiseMetaData) → t < z.depots → (place t l).promise ≡ Promised m
       → (t ≡ b) × (m ≡ record { n_accepted = x.storage.accepted_round; accepted_idx = x.storage.accepted_idx; decided_idx = x.storage.decided_idx; pid = b + 1 })
   pub number : (t : ℕ) → t < z.depots → (place t l).seq_num ≡ first
   pub noted : (t : ℕ) → t < z.depots → (place t l).accepted_idx ≡ 0
-  pub latest : (t : ℕ) → t < z.depots → (place t l).latest ≡ latest.Nothing
+  pub latest : (t : ℕ) → t < z.depots → (place t l).latest ≡ None
 
 abbrev pub elected_to : Ballot → LeaderState → List ℕ → Face → Face
 elected_to n l best x =

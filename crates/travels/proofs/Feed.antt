@@ -1,4 +1,5 @@
 -- A leader's log gains entries, or its decided index rises, and each promised follower is told: in a message of its own, or in the one that is remembered.
+use Rattle.std.specs.Prelude.{Option, None, Some}
 use Prim.Native.Nat.{ℕ, suc, ◌+◌, ◌≤◌, ◌<◌}
 use mathlib.Core.Path.{◌≡◌, refl, sym, ap, subst, ◌∙◌}
 use mathlib.Core.Logic.{◌⊎◌, inl, inr, ◌≢◌}
@@ -10,12 +11,12 @@ use lib.ListN.{length, take, drop, set, get_or, length-set, length-append}
 use lib.Seq.{get_or-set_other}
 use Rattle.base.proofs.Tests.{not-both}
 use Rattle.base.specs.Count.{count_below}
+use Rattle.paxos_box.specs.declared.AcceptedAt.{AcceptedAt}
 use Rattle.ballot.specs.declared.Ballot.{Ballot}
 use Rattle.ballot.proofs.Laws.{same_refl as same_self}
 use Rattle.sequence.specs.declared.SequenceNumber.{SequenceNumber}
 use Rattle.leader_state.specs.declared.Depot.{Depot}
 use Rattle.leader_state.specs.declared.LeaderState.{LeaderState}
-use Rattle.leader_state.specs.declared.Latest.TheVariants as latest
 use Rattle.leader_state.specs.Promises.{is_promised}
 use Rattle.messages.specs.declared.PaxosMsg.TheVariants as msg
 use Rattle.messages.specs.declared.AcceptDecide.{AcceptDecide}
@@ -24,8 +25,6 @@ use Rattle.paxos_box.specs.declared.Role.TheVariants.{Leader}
 use Rattle.paxos_box.specs.declared.Phase.TheVariants as phase
 use Rattle.paxos_box.specs.declared.State.{State}
 use Rattle.paxos_box.specs.declared.InternalStorage.{InternalStorage}
-use Rattle.paxos_box.specs.declared.AcceptedMeta.{AcceptedMeta}
-use Rattle.paxos_box.specs.declared.AcceptedMeta.TheVariants as meta
 use Rattle.paxos_box.specs.Box.{is_leader}
 use Rattle.outgoing.specs.Queue.{Msg}
 use Rattle.agreement.specs.Order.{leader_of}
@@ -177,9 +176,9 @@ there-apart : {u i j : ℕ} {m : Msg} {q : List Msg} → There to_of no_msg u i 
 there-apart {u} {i} {j} {m} {q} w x ne = record { below = rw (length-set q j x) w.below; is = get_or-set_other q j i x no_msg ne ∙ w.is; for = w.for }
 
 -- an Accepted does not stand where an AcceptDecide does
-meta-edit : (m : AcceptedMeta) {u at : ℕ} {a : AcceptDecide} {es : List ℕ} {q : List Msg} → There to_of no_msg u at (record { to = u; msg = msg.AcceptDecide a; entries = es }) q → (x : Msg) → MetaOk m q → MetaOk m (set q at x)
-meta-edit meta.Nothing w x o = tt
-meta-edit (meta.At k) {u} {at} {a} {es} {q} w x o = record { index = o.index; there = there-apart o.there x (λ e. clash e) }
+meta-edit : (m : Option AcceptedAt) {u at : ℕ} {a : AcceptDecide} {es : List ℕ} {q : List Msg} → There to_of no_msg u at (record { to = u; msg = msg.AcceptDecide a; entries = es }) q → (x : Msg) → MetaOk m q → MetaOk m (set q at x)
+meta-edit None w x o = tt
+meta-edit (Some k) {u} {at} {a} {es} {q} w x o = record { index = o.index; there = there-apart o.there x (λ e. clash e) }
   where
     clash : k.at ≡ at → ⊥
     clash e =
@@ -289,9 +288,9 @@ module _ {z : Sizes} {P : ℕ → Type 0} {b : ℕ} {c : Scene} {g : Ghost ℕ} 
       of-n = s.ballot ∙ p.now
 
       remembers : (u : ℕ) → Remembers x.leader.n_leader u (place u x.leader) x.queue → (u ≡ t) ⊎ (u ≢ t) → Remembers x.leader.n_leader u (place u x.leader) q'
-      remembers u r (inl e) = record { stands = λ at' f. subst (λ k. Standing x.leader.n_leader k (place k x.leader) at' q') (sym e) (here at' (subst (λ k. (place k x.leader).latest ≡ latest.At at') e f) (subst (λ k. Remembers x.leader.n_leader k (place k x.leader) x.queue) e r)) }
+      remembers u r (inl e) = record { stands = λ at' f. subst (λ k. Standing x.leader.n_leader k (place k x.leader) at' q') (sym e) (here at' (subst (λ k. (place k x.leader).latest ≡ Some at') e f) (subst (λ k. Remembers x.leader.n_leader k (place k x.leader) x.queue) e r)) }
         where
-          here : (at' : ℕ) → (place t x.leader).latest ≡ latest.At at' → Remembers x.leader.n_leader t (place t x.leader) x.queue → Standing x.leader.n_leader t (place t x.leader) at' q'
+          here : (at' : ℕ) → (place t x.leader).latest ≡ Some at' → Remembers x.leader.n_leader t (place t x.leader) x.queue → Standing x.leader.n_leader t (place t x.leader) at' q'
           here at' f r = spot (depot-eq at' at)
             where
               spot : (at' ≡ at) ⊎ (at' ≢ at) → Standing x.leader.n_leader t (place t x.leader) at' q'

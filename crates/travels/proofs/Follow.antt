@@ -1,4 +1,5 @@
 -- A follower's events: it promises, takes an AcceptSync, takes more entries or a decided index.
+use Rattle.std.specs.Prelude.{Option, None, Some}
 use Prim.Native.Nat.{ℕ, suc, ◌+◌, ◌≤◌, ◌<◌, min, max}
 use mathlib.Core.Path.{◌≡◌, refl, sym, ap, subst, ◌∙◌}
 use mathlib.Core.Logic.{◌⊎◌, inl, inr, ◌≢◌}
@@ -8,16 +9,15 @@ use native.Mathlib.Omega.{arith}
 use lib.ListN.{length, take, drop, length-append, length-take}
 use Rattle.base.proofs.Tests.{not-both}
 use Rattle.ballot.specs.Ballot.{same}
+use Rattle.paxos_box.specs.declared.CachedPromise.{CachedPromise}
+use Rattle.leader_state.specs.declared.LogSync.{LogSync}
 use Rattle.ballot.specs.declared.Ballot.{Ballot}
 use Rattle.ballot.proofs.Laws.{same-eq, same_refl as same_self}
 use Rattle.sequence.specs.Sequence.{first}
 use Rattle.sequence.specs.declared.SequenceNumber.{SequenceNumber}
-use Rattle.leader_state.specs.declared.HeldSync.{HeldSync}
 use Rattle.leader_state.specs.declared.LeaderState.{LeaderState}
 use Rattle.paxos_box.specs.declared.InternalStorage.{InternalStorage}
 use Rattle.paxos_box.specs.declared.State.{State}
-use Rattle.paxos_box.specs.declared.CachedMessage.{CachedMessage}
-use Rattle.paxos_box.specs.declared.CachedMessage.TheVariants as cached
 use Rattle.paxos_box.specs.declared.Role.{Role}
 use Rattle.paxos_box.specs.declared.Role.TheVariants.{Leader, Follower}
 use Rattle.paxos_box.specs.declared.Phase.{Phase}
@@ -46,7 +46,7 @@ use Rattle.travels.proofs.Tests.{and-false}
 -- ---- it promises
 
 -- the face of a depot that has promised n, and caches what it tells
-abbrev pub promised_to : Ballot → HeldSync → List ℕ → Face → Face
+abbrev pub promised_to : Ballot → Option LogSync → List ℕ → Face → Face
 promised_to n sync es x =
     record {
       storage = record { promise = n; accepted_round = x.storage.accepted_round; decided_idx = x.storage.decided_idx; accepted_idx = x.storage.accepted_idx };
@@ -55,7 +55,7 @@ promised_to n sync es x =
       seq = first;
       leader = x.leader;
       best = x.best;
-      message = cached.Held (record { n = n; n_accepted = x.storage.accepted_round; decided_idx = x.storage.decided_idx; accepted_idx = x.storage.accepted_idx; sync = sync });
+      message = Some (record { n = n; n_accepted = x.storage.accepted_round; decided_idx = x.storage.decided_idx; accepted_idx = x.storage.accepted_idx; sync = sync });
       cached = es;
       buffered = x.buffered;
       meta = x.meta;
@@ -69,7 +69,7 @@ module _ {z : Sizes} {P : ℕ → Type 0} {b : ℕ} {c : Scene} {g : Ghost ℕ} 
   holds : Holds z g b x.storage.promise x.storage.accepted_round x.log x.storage.decided_idx
   holds = v.node.own.holds
 
-  pub t-promised : {la ld : ℕ} {n lna : Ballot} (sync : HeldSync) (es : List ℕ) → Upto x.storage.promise n → Asks z g n lna la ld
+  pub t-promised : {la ld : ℕ} {n lna : Ballot} (sync : Option LogSync) (es : List ℕ) → Upto x.storage.promise n → Asks z g n lna la ld
       → (Below lna x.storage.accepted_round → sync_of sync es ≡ from ld (drop ld x.log))
       → (lna ≡ x.storage.accepted_round → la < length x.log → sync_of sync es ≡ from la (drop la x.log))
       → Next z P b c g (promised_to n sync es x)
@@ -113,7 +113,7 @@ round-of z g b st log l best Follower phase.Recover o e = absurd (not-both e ref
 round-of z g b st log l best Follower phase.None o e = absurd (not-both e refl)
 
 -- the face of a depot that has accepted a log
-abbrev pub took_to : Ballot → ℕ → List ℕ → ℕ → State → SequenceNumber → CachedMessage → List ℕ → Face → Face
+abbrev pub took_to : Ballot → ℕ → List ℕ → ℕ → State → SequenceNumber → Option CachedPromise → List ℕ → Face → Face
 took_to r d log k s q m es x =
     record {
       storage = record { promise = x.storage.promise; accepted_round = r; decided_idx = d; accepted_idx = k };
@@ -131,7 +131,7 @@ took_to r d log k s q m es x =
 
 module _ {z : Sizes} {P : ℕ → Type 0} {b : ℕ} {c : Scene} {g : Ghost ℕ} {x : Face} (v : Well z P b c g x) (n : Ballot) (p : x.storage.promise ≡ n) where
   -- it accepts what it was brought in ballot n, and has the decided index d; what is left under way of that ballot follows it
-  took : {r : Ballot} {d₀ d k : ℕ} {log : List ℕ} {s : State} (q : SequenceNumber) (m : CachedMessage) (es : List ℕ) → r ≡ n → k ≡ length log → is_leader s.role ≡ false → is_accept_phase s.phase ≡ true
+  took : {r : Ballot} {d₀ d k : ℕ} {log : List ℕ} {s : State} (q : SequenceNumber) (m : Option CachedPromise) (es : List ℕ) → r ≡ n → k ≡ length log → is_leader s.role ≡ false → is_accept_phase s.phase ≡ true
       → Brought z g b n d₀ log → d ≤ length log → Comm z g n d → CachedOk z g b m es
       → ((u : leader_of n < z.depots) → leader_of n ≢ b
       → Flow (g.G n) (length log) (map (item n) (c.inn (leader_of n))) (taker n (took_to r d log k s q m es x) (length log)) (feeder (feeds_in n b (c.others (leader_of n))) n b (c.others (leader_of n))))
@@ -174,9 +174,9 @@ module _ {z : Sizes} {P : ℕ → Type 0} {b : ℕ} {c : Scene} {g : Ghost ℕ} 
   -- an AcceptSync
   pub t-synced : {i d : ℕ} {es : List ℕ} (q : SequenceNumber) → Syncs z g b n i es d → leader_of n < z.depots → leader_of n ≢ b
       → Flow (g.G n) (g.A b n) (opens q.session q.counter i es ∷ map (item n) (c.inn (leader_of n))) (taker n x (length x.log)) (feeder (feeds_in n b (c.others (leader_of n))) n b (c.others (leader_of n)))
-      → Next z P b c g (took_to n (max x.storage.decided_idx d) (take i x.log ++ es) (i + length es) (record { role = Follower; phase = phase.Accept }) q cached.Nothing [] x)
+      → Next z P b c g (took_to n (max x.storage.decided_idx d) (take i x.log ++ es) (i + length es) (record { role = Follower; phase = phase.Accept }) q None [] x)
   t-synced {i} {d} {es} q w u ne f =
-      took q cached.Nothing [] refl (sym len) refl refl br (omega (arith, len, br.fits, w.fits)) (comm-max x.storage.decided_idx d br.decided w.decided) tt
+      took q None [] refl (sym len) refl refl br (omega (arith, len, br.fits, w.fits)) (comm-max x.storage.decided_idx d br.decided w.decided) tt
       (λ _ _. took-opens f _ (omega (arith, len)) (record { session = refl; counter = refl; length = len }))
     where
       hd : Holds z g b n x.storage.accepted_round x.log x.storage.decided_idx

@@ -1,4 +1,5 @@
 -- A leader notes what it is told: a promise, an accepted index, that a depot has promised higher or must be prepared again.
+use Rattle.std.specs.Prelude.{None, Some}
 use Prim.Native.Nat.{ℕ, ◌<◌}
 use mathlib.Core.Path.{◌≡◌, refl, sym, ap, subst, ◌∙◌}
 use mathlib.Core.Logic.{◌⊎◌, inl, inr, ◌≢◌}
@@ -16,7 +17,6 @@ use Rattle.leader_state.specs.declared.MaxPromise.{MaxPromise}
 use Rattle.leader_state.specs.declared.PromiseMetaData.{PromiseMetaData}
 use Rattle.leader_state.specs.declared.PromiseState.{PromiseState}
 use Rattle.leader_state.specs.declared.PromiseState.TheVariants.{Promised}
-use Rattle.leader_state.specs.declared.Latest.TheVariants as latest
 use Rattle.leader_state.specs.Promises.{is_promised}
 use Rattle.leader_state.specs.State.{set_promise_state}
 use Rattle.paxos_box.specs.declared.Role.{Role}
@@ -48,7 +48,7 @@ pub record Less (z : Sizes) (l l' : LeaderState) : Type 0 where
   pub best : l'.max_promise ≡ l.max_promise
   pub number : (t : ℕ) → t < z.depots → (place t l').seq_num ≡ (place t l).seq_num
   pub promise : (t : ℕ) → t < z.depots → ((place t l').promise ≡ (place t l).promise) ⊎ (is_promised (place t l').promise ≡ false)
-  pub latest : (t : ℕ) → t < z.depots → ((place t l').latest ≡ (place t l).latest) ⊎ ((place t l').latest ≡ latest.Nothing)
+  pub latest : (t : ℕ) → t < z.depots → ((place t l').latest ≡ (place t l).latest) ⊎ ((place t l').latest ≡ None)
 
 pub no-promise : {A : Type 0} {p : PromiseState} {m : PromiseMetaData} → is_promised p ≡ false → p ≡ Promised m → A
 no-promise {p = p} e q = absurd (not-both (ap is_promised q) e)
@@ -70,10 +70,10 @@ feeds-less-to n t s l l' en p e =
     let j : (is_accept_phase s.phase ≡ true) × (is_promised (place t l').promise ≡ true) = both_true k.1 in
     rw (← leads-same n s l l' en, k.0, j.0) (p j.1)
 
-pub remembers-less : {n n' : Ballot} {t : ℕ} {d d' : Depot} {q : List Msg} → n' ≡ n → d'.seq_num ≡ d.seq_num → (d'.latest ≡ d.latest) ⊎ (d'.latest ≡ latest.Nothing) → Remembers n t d q → Remembers n' t d' q
+pub remembers-less : {n n' : Ballot} {t : ℕ} {d d' : Depot} {q : List Msg} → n' ≡ n → d'.seq_num ≡ d.seq_num → (d'.latest ≡ d.latest) ⊎ (d'.latest ≡ None) → Remembers n t d q → Remembers n' t d' q
 remembers-less {n} {n'} {t} {d} {d'} {q} en es e o = record { stands = λ at k. one at k e }
   where
-    one : (at : ℕ) → d'.latest ≡ latest.At at → (d'.latest ≡ d.latest) ⊎ (d'.latest ≡ latest.Nothing) → Standing n' t d' at q
+    one : (at : ℕ) → d'.latest ≡ Some at → (d'.latest ≡ d.latest) ⊎ (d'.latest ≡ None) → Standing n' t d' at q
     one at k (inr f) = no-latest f k
     one at k (inl f) =
         let s : Standing n t d at q = o.stands at (sym f ∙ k) in

@@ -1,4 +1,5 @@
 -- A session is opened: the leader sends a promised follower an AcceptSync.
+use Rattle.std.specs.Prelude.{None}
 use Prim.Native.Nat.{ℕ, ◌+◌, ◌<◌, min}
 use mathlib.Core.Path.{◌≡◌, refl, sym, ap, subst, ◌∙◌}
 use mathlib.Core.Logic.{◌⊎◌, inl, inr, ◌≢◌}
@@ -16,7 +17,6 @@ use Rattle.leader_state.specs.declared.Depot.{Depot}
 use Rattle.leader_state.specs.declared.LeaderState.{LeaderState}
 use Rattle.leader_state.specs.declared.PromiseMetaData.{PromiseMetaData}
 use Rattle.leader_state.specs.declared.PromiseState.TheVariants.{Promised}
-use Rattle.leader_state.specs.declared.Latest.TheVariants as latest
 use Rattle.leader_state.specs.Promises.{sync_start}
 use Rattle.messages.specs.declared.PaxosMsg.TheVariants as msg
 use Rattle.paxos_box.specs.declared.Role.TheVariants.{Leader}
@@ -91,7 +91,7 @@ opening t i x =
 
 abbrev pub opened : ℕ → Face → Depot
 opened t x =
-    record { promise = (place t x.leader).promise; seq_num = record { session = (place t x.leader).seq_num.session + 1; counter = 1 }; accepted_idx = (place t x.leader).accepted_idx; latest = latest.Nothing }
+    record { promise = (place t x.leader).promise; seq_num = record { session = (place t x.leader).seq_num.session + 1; counter = 1 }; accepted_idx = (place t x.leader).accepted_idx; latest = None }
 
 -- ---- where the sync starts, the follower's log is valid
 module _ {z : Sizes} {P : ℕ → Type 0} {b : ℕ} {c : Scene} {g : Ghost ℕ} {whole : Ballot → ℕ → List ℕ} {fed : Ballot → ℕ → Bool} {x : Face} (v : Near z P b c g whole fed x)

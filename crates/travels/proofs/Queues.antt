@@ -1,13 +1,13 @@
 -- The queue of a depot: a message at its end, an edit in its place, and what both mean for each receiver.
+use Rattle.std.specs.Prelude.{Option, None, Some}
 use Prim.Native.Nat.{ℕ, ◌+◌}
 use mathlib.Core.Path.{◌≡◌, sym}
 use mathlib.Core.Logic.{◌⊎◌, inl, inr, ◌≢◌}
 use mathlib.Core.Bool.{Bool}
 use mathlib.Core.List.{List, [], ◌∷◌, ◌++◌, map, map-append, append_assoc}
+use Rattle.paxos_box.specs.declared.AcceptedAt.{AcceptedAt}
 use Rattle.ballot.specs.declared.Ballot.{Ballot}
 use Rattle.leader_state.specs.declared.Depot.{Depot}
-use Rattle.paxos_box.specs.declared.AcceptedMeta.{AcceptedMeta}
-use Rattle.paxos_box.specs.declared.AcceptedMeta.TheVariants as meta
 use Rattle.outgoing.specs.Queue.{Msg}
 use Rattle.agreement.specs.Core.{Sizes, Ghost}
 use Rattle.agreement.specs.All.{All, nil, cons}
@@ -52,9 +52,9 @@ remembers-push {n} {t} {d} {q} r o = record { stands = λ at e. one at (o.stands
     one : (at : ℕ) → Standing n t d at q → Standing n t d at (q ++ r)
     one at s = record { what = s.what; entries = s.entries; there = there-push to_of s.there r; ballot = s.ballot; number = s.number }
 
-pub meta-push : (m : AcceptedMeta) (q r : List Msg) → MetaOk m q → MetaOk m (q ++ r)
-meta-push meta.Nothing q r o = tt
-meta-push (meta.At x) q r o = record { index = o.index; there = there-push to_of o.there r }
+pub meta-push : (m : Option AcceptedAt) (q r : List Msg) → MetaOk m q → MetaOk m (q ++ r)
+meta-push None q r o = tt
+meta-push (Some x) q r o = record { index = o.index; there = there-push to_of o.there r }
 
 -- a depot's facts with one message more in its queue
 node-push : {z : Sizes} {P : ℕ → Type 0} {g : Ghost ℕ} {b : ℕ} {x : Face} (m : Msg) → NodeOk z P g b x → NodeOk z P g b (push m x)

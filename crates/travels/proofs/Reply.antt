@@ -1,4 +1,5 @@
 -- Small changes: what is buffered, what is remembered, a waiting message edited, a depot that is a follower again, a restart.
+use Rattle.std.specs.Prelude.{Option, None, Some}
 use Prim.Native.Nat.{ℕ, suc, ◌+◌, ◌<◌}
 use mathlib.Core.Path.{◌≡◌, refl, sym, ap, subst}
 use mathlib.Core.Logic.{◌⊎◌, inl, inr, ◌≢◌}
@@ -8,13 +9,11 @@ use native.Mathlib.Omega.{arith}
 use lib.ListN.{length, take, drop, set}
 use Rattle.base.proofs.Tests.{not-both}
 use Rattle.base.specs.Limits.{max_depots}
+use Rattle.paxos_box.specs.declared.AcceptedAt.{AcceptedAt}
 use Rattle.ballot.specs.declared.Ballot.{Ballot}
 use Rattle.sequence.specs.Sequence.{first}
 use Rattle.leader_state.specs.declared.LeaderState.{LeaderState}
 use Rattle.messages.specs.declared.PaxosMsg.TheVariants as msg
-use Rattle.paxos_box.specs.declared.AcceptedMeta.{AcceptedMeta}
-use Rattle.paxos_box.specs.declared.AcceptedMeta.TheVariants as meta
-use Rattle.paxos_box.specs.declared.CachedMessage.TheVariants as cached
 use Rattle.paxos_box.specs.declared.Phase.{Phase}
 use Rattle.paxos_box.specs.declared.Phase.TheVariants as phase
 use Rattle.paxos_box.specs.declared.Role.TheVariants.{Follower}
@@ -52,7 +51,7 @@ module _ {z : Sizes} {P : ℕ → Type 0} {b : ℕ} {c : Scene} {g : Ghost ℕ} 
       }
 
   -- another Accepted is remembered
-  remeta : (m : AcceptedMeta) → MetaOk m x.queue → Near z P b c g whole fed (with_meta m x)
+  remeta : (m : Option AcceptedAt) → MetaOk m x.queue → Near z P b c g whole fed (with_meta m x)
   remeta m o =
       record {
         core = v.core;
@@ -94,13 +93,13 @@ abbrev pub accepted_msg : Ballot → ℕ → Msg
 accepted_msg n k = record { to = n.pid; msg = msg.Accepted (record { n = n; accepted_idx = k }); entries = [] }
 
 module _ {z : Sizes} {P : ℕ → Type 0} {b : ℕ} {c : Scene} {g : Ghost ℕ} {whole : Ballot → ℕ → List ℕ} {fed : Ballot → ℕ → Bool} {x : Face} (v : Near z P b c g whole fed x) {n : Ballot} {k : ℕ} (r : Reached g b n k) where
-  pub replied-new : Near z P b c g whole fed (with_meta (meta.At (record { n = n; at = length x.queue })) (push (accepted_msg n k) x))
+  pub replied-new : Near z P b c g whole fed (with_meta (Some (record { n = n; at = length x.queue })) (push (accepted_msg n k) x))
   replied-new =
-      remeta (pushed (accepted_msg n k) (λ t e. r) (λ m. refl) v) (meta.At (record { n = n; at = length x.queue }))
+      remeta (pushed (accepted_msg n k) (λ t e. r) (λ m. refl) v) (Some (record { n = n; at = length x.queue }))
       (record { index = k; there = there-new to_of x.queue (accepted_msg n k) refl })
 
   -- the depot is no leader, so it remembers nothing else
-  pub replied-edit : (t : ℕ) → n.pid ≡ t + 1 → is_leader x.state.role ≡ false → {at : ℕ} → x.meta ≡ meta.At (record { n = n; at = at })
+  pub replied-edit : (t : ℕ) → n.pid ≡ t + 1 → is_leader x.state.role ≡ false → {at : ℕ} → x.meta ≡ Some (record { n = n; at = at })
       → Near z P b c g whole fed (with_queue (set x.queue at (accepted_msg n k)) x)
   replied-edit t e l {at} is =
       record {
@@ -120,7 +119,7 @@ module _ {z : Sizes} {P : ℕ → Type 0} {b : ℕ} {c : Scene} {g : Ghost ℕ} 
         up = λ m u o lt ne. flow m u o lt ne (depot-eq u t);
       }
     where
-      w : MetaOk (meta.At (record { n = n; at = at })) x.queue
+      w : MetaOk (Some (record { n = n; at = at })) x.queue
       w = subst (λ m. MetaOk m x.queue) is v.node.meta
 
       th : There to_of no_msg (t + 1) at (accepted_msg n w.index) x.queue
@@ -171,10 +170,10 @@ restarted_to l x =
       seq = first;
       leader = l;
       best = [];
-      message = cached.Nothing;
+      message = None;
       cached = [];
       buffered = [];
-      meta = meta.Nothing;
+      meta = None;
       queue = [];
     }
 

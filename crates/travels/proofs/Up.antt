@@ -1,16 +1,16 @@
 -- What is claimed of a message, and of a depot that does not move, lives on.
+use Rattle.std.specs.Prelude.{Option, None, Some}
 use Prim.Native.Nat.{ℕ}
 use mathlib.Core.Logic.{◌≢◌}
 use mathlib.Core.List.{List}
 use native.Mathlib.Omega.{arith}
+use Rattle.paxos_box.specs.declared.CachedPromise.{CachedPromise}
 use Rattle.ballot.specs.declared.Ballot.{Ballot}
 use Rattle.leader_state.specs.declared.Depot.{Depot}
 use Rattle.leader_state.specs.declared.LeaderState.{LeaderState}
 use Rattle.messages.specs.declared.PaxosMsg.{PaxosMsg}
 use Rattle.messages.specs.declared.PaxosMsg.TheVariants as msg
 use Rattle.paxos_box.specs.declared.InternalStorage.{InternalStorage}
-use Rattle.paxos_box.specs.declared.CachedMessage.{CachedMessage}
-use Rattle.paxos_box.specs.declared.CachedMessage.TheVariants as cached
 use Rattle.paxos_box.specs.declared.Role.{Role}
 use Rattle.paxos_box.specs.declared.Role.TheVariants.{Leader, Follower}
 use Rattle.paxos_box.specs.declared.Phase.{Phase}
@@ -39,9 +39,9 @@ module _ {b : ℕ} {g h : Ghost ℕ} (e : Ext b g h) where
   noted-up {n} {t} o = record { reached = omega (arith, o.reached, (moves e t).up n) }
 
 module _ (z : Sizes) {b : ℕ} {g h : Ghost ℕ} (e : Ext b g h) where
-  pub cached-up : (c : ℕ) (m : CachedMessage) (es : List ℕ) → CachedOk z g c m es → CachedOk z h c m es
-  cached-up c cached.Nothing es o = tt
-  cached-up c (cached.Held p) es o = answer-up e o
+  pub cached-up : (c : ℕ) (m : Option CachedPromise) (es : List ℕ) → CachedOk z g c m es → CachedOk z h c m es
+  cached-up c None es o = tt
+  cached-up c (Some p) es o = answer-up e o
 
   module _ (c : ℕ) (ne : c ≢ b) where
     own-up : (st : InternalStorage) (log : List ℕ) → Own z g c st log → Own z h c st log

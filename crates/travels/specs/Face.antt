@@ -1,22 +1,19 @@
 -- What of a depot the protocol reads: its durable part, its role, and the messages that wait. And what a message is to the stream of one ballot.
-use Rattle.std.specs.Prelude.{ℕ, Bool, cond, ◌&&◌, List, [], ◌∷◌, ◌++◌, get_or}
+use Rattle.std.specs.Prelude.{ℕ, Bool, cond, ◌&&◌, List, [], ◌∷◌, ◌++◌, get_or, Option, None, Some}
 use Rattle.ballot.specs.Ballot.{same}
+use Rattle.paxos_box.specs.declared.AcceptedAt.{AcceptedAt}
+use Rattle.paxos_box.specs.declared.CachedPromise.{CachedPromise}
+use Rattle.leader_state.specs.declared.LogSync.{LogSync}
 use Rattle.ballot.specs.declared.Ballot.{Ballot}
 use Rattle.sequence.specs.declared.SequenceNumber.{SequenceNumber}
 use Rattle.leader_state.specs.declared.Depot.{Depot}
 use Rattle.leader_state.specs.declared.LeaderState.{LeaderState}
-use Rattle.leader_state.specs.declared.HeldSync.{HeldSync}
-use Rattle.leader_state.specs.declared.HeldSync.TheVariants as held
 use Rattle.leader_state.specs.State.{fresh}
 use Rattle.leader_state.specs.Promises.{is_promised}
 use Rattle.messages.specs.declared.PaxosMsg.{PaxosMsg}
 use Rattle.messages.specs.declared.PaxosMsg.TheVariants as msg
-use Rattle.messages.specs.declared.PromiseSync.{PromiseSync}
-use Rattle.messages.specs.declared.PromiseSync.TheVariants as brought
 use Rattle.paxos_box.specs.declared.InternalStorage.{InternalStorage}
 use Rattle.paxos_box.specs.declared.State.{State}
-use Rattle.paxos_box.specs.declared.CachedMessage.{CachedMessage}
-use Rattle.paxos_box.specs.declared.AcceptedMeta.{AcceptedMeta}
 use Rattle.paxos_box.specs.Box.{is_leader, is_accept_phase}
 use Rattle.outgoing.specs.Queue.{Msg}
 use Rattle.agreement.specs.Report.{Sync, none, from}
@@ -32,11 +29,11 @@ pub record Face : Type 0 where
   pub leader : LeaderState
   pub best : List ℕ
   -- the cached promise, with the entries of its sync; the buffered proposals
-  pub message : CachedMessage
+  pub message : Option CachedPromise
   pub cached : List ℕ
   pub buffered : List ℕ
   -- the remembered Accepted, and the messages that wait
-  pub meta : AcceptedMeta
+  pub meta : Option AcceptedAt
   pub queue : List Msg
 
 -- the place of the depot t in a leader's record
@@ -44,13 +41,13 @@ abbrev pub place : ℕ → LeaderState → Depot
 place t l = get_or l.depots t fresh
 
 -- a sync with its entries: one that is held, one that a Promise brings
-abbrev pub sync_of : HeldSync → List ℕ → Sync ℕ
-sync_of held.Nothing l = none
-sync_of (held.Held x) l = from x.sync_idx l
+abbrev pub sync_of : Option LogSync → List ℕ → Sync ℕ
+sync_of None l = none
+sync_of (Some x) l = from x.sync_idx l
 
-abbrev pub sync_in : PromiseSync → List ℕ → Sync ℕ
-sync_in brought.Nothing l = none
-sync_in (brought.From i) l = from i l
+abbrev pub sync_in : Option ℕ → List ℕ → Sync ℕ
+sync_in None l = none
+sync_in (Some i) l = from i l
 
 -- a message with these entries, to the stream of ballot n
 abbrev pub if_same : Ballot → Ballot → Item ℕ → Item ℕ
@@ -97,7 +94,7 @@ feeder fed n t x = record { leads = leads_in n x; feeds = fed; session = (place 
 abbrev pub with_queue : List Msg → Face → Face
 with_queue q x = record { storage = x.storage; log = x.log; state = x.state; seq = x.seq; leader = x.leader; best = x.best; message = x.message; cached = x.cached; buffered = x.buffered; meta = x.meta; queue = q }
 
-abbrev pub with_meta : AcceptedMeta → Face → Face
+abbrev pub with_meta : Option AcceptedAt → Face → Face
 with_meta m x = record { storage = x.storage; log = x.log; state = x.state; seq = x.seq; leader = x.leader; best = x.best; message = x.message; cached = x.cached; buffered = x.buffered; meta = m; queue = x.queue }
 
 abbrev pub with_state : State → Face → Face

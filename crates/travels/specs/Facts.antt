@@ -1,20 +1,17 @@
 -- What is claimed of a message under way and of a depot, over the ghost data. P says which entries were proposed.
-use Rattle.std.specs.Prelude.{ℕ, ◌+◌, ◌≤◌, ◌<◌, ◌≡◌, true, List, [], length}
+use Rattle.std.specs.Prelude.{ℕ, ◌+◌, ◌≤◌, ◌<◌, ◌≡◌, true, List, [], length, Option, None, Some}
 use Rattle.base.specs.Limits.{max_depots}
+use Rattle.paxos_box.specs.declared.AcceptedAt.{AcceptedAt}
+use Rattle.paxos_box.specs.declared.CachedPromise.{CachedPromise}
 use Rattle.ballot.specs.declared.Ballot.{Ballot}
 use Rattle.leader_state.specs.declared.Depot.{Depot}
 use Rattle.leader_state.specs.declared.LeaderState.{LeaderState}
 use Rattle.leader_state.specs.declared.PromiseMetaData.{PromiseMetaData}
 use Rattle.leader_state.specs.declared.PromiseState.TheVariants.{Promised}
-use Rattle.leader_state.specs.declared.Latest.TheVariants as latest
 use Rattle.messages.specs.declared.PaxosMsg.{PaxosMsg}
 use Rattle.messages.specs.declared.PaxosMsg.TheVariants as msg
 use Rattle.messages.specs.declared.AcceptDecide.{AcceptDecide}
 use Rattle.paxos_box.specs.declared.InternalStorage.{InternalStorage}
-use Rattle.paxos_box.specs.declared.CachedMessage.{CachedMessage}
-use Rattle.paxos_box.specs.declared.CachedMessage.TheVariants as cached
-use Rattle.paxos_box.specs.declared.AcceptedMeta.{AcceptedMeta}
-use Rattle.paxos_box.specs.declared.AcceptedMeta.TheVariants as meta
 use Rattle.paxos_box.specs.declared.Role.{Role}
 use Rattle.paxos_box.specs.declared.Role.TheVariants.{Leader, Follower}
 use Rattle.paxos_box.specs.declared.Phase.{Phase}
@@ -93,9 +90,9 @@ InRole z g b st log l best Follower phase.Recover = Unit {0}
 InRole z g b st log l best Follower phase.None = Unit {0}
 
 -- its cached promise is a report that it gave
-abbrev pub CachedOk : Sizes → Ghost ℕ → ℕ → CachedMessage → List ℕ → Type 0
-CachedOk z g b cached.Nothing es = Unit {0}
-CachedOk z g b (cached.Held p) es = Answer z g p.n b p.n_accepted p.accepted_idx p.decided_idx (sync_of p.sync es)
+abbrev pub CachedOk : Sizes → Ghost ℕ → ℕ → Option CachedPromise → List ℕ → Type 0
+CachedOk z g b None es = Unit {0}
+CachedOk z g b (Some p) es = Answer z g p.n b p.n_accepted p.accepted_idx p.decided_idx (sync_of p.sync es)
 
 -- what stands past the end of a queue
 abbrev pub no_msg : Msg
@@ -111,16 +108,16 @@ pub record Standing (n : Ballot) (t : ℕ) (d : Depot) (at : ℕ) (q : List Msg)
 
 -- what a leader remembers for t stands there
 pub record Remembers (n : Ballot) (t : ℕ) (d : Depot) (q : List Msg) : Type 0 where
-  pub stands : (at : ℕ) → d.latest ≡ latest.At at → Standing n t d at q
+  pub stands : (at : ℕ) → d.latest ≡ Some at → Standing n t d at q
 
 -- an Accepted of ballot n stands at a place
 pub record Waits (n : Ballot) (at : ℕ) (q : List Msg) : Type 0 where
   pub index : ℕ
   pub there : There (λ (m : Msg). m.to) no_msg n.pid at (record { to = n.pid; msg = msg.Accepted (record { n = n; accepted_idx = index }); entries = [] }) q
 
-abbrev pub MetaOk : AcceptedMeta → List Msg → Type 0
-MetaOk meta.Nothing q = Unit {0}
-MetaOk (meta.At x) q = Waits x.n x.at q
+abbrev pub MetaOk : Option AcceptedAt → List Msg → Type 0
+MetaOk None q = Unit {0}
+MetaOk (Some x) q = Waits x.n x.at q
 
 pub record NodeOk (z : Sizes) (P : ℕ → Type 0) (g : Ghost ℕ) (b : ℕ) (x : Face) : Type 0 where
   pub own : Own z g b x.storage x.log

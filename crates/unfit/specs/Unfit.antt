@@ -1,6 +1,6 @@
 -- Refusals 3 and 4 (document 01, "When a box says no"): whom an event names, and what makes it unfit in every state. Each clause of the paragraph
 -- "Unfit" up to "decided above accepted in Prepare or Promise" is a definition of its own, in its order.
-use Rattle.std.specs.Prelude.{ℕ, Bool, true, false, not, ◌&&◌, ◌||◌, List, ltb, eqb, length}
+use Rattle.std.specs.Prelude.{ℕ, Bool, true, false, not, ◌&&◌, ◌||◌, List, ltb, eqb, length, Option, None, Some}
 use Rattle.base.specs.Limits.{max_log, max_proposal}
 use Rattle.ballot.specs.Ballot.{is_default}
 use Rattle.ballot.specs.declared.Ballot.{Ballot}
@@ -9,8 +9,6 @@ use Rattle.quorum.specs.declared.Configuration.{Configuration}
 use Rattle.hire_book.specs.Book.{any_above}
 use Rattle.messages.specs.declared.PaxosMsg.{PaxosMsg}
 use Rattle.messages.specs.declared.PaxosMsg.TheVariants.{PrepareReq, Prepare, Promise, AcceptSync, AcceptDecide, Accepted, NotAccepted, Decide, ProposalForward}
-use Rattle.messages.specs.declared.PromiseSync.{PromiseSync}
-use Rattle.messages.specs.declared.PromiseSync.TheVariants.{Nothing, From}
 use Rattle.messages.specs.declared.Event.{Event}
 use Rattle.messages.specs.declared.Event.TheVariants.{Message, Propose, Leader, Reconnect, Resend, Drain, Restart}
 
@@ -33,9 +31,9 @@ stranger_of c Restart = false
 
 -- An entry above its limit, of a message that carries entries
 
-abbrev pub is_from : PromiseSync → Bool
-is_from Nothing = false
-is_from (From start) = true
+abbrev pub is_from : Option ℕ → Bool
+is_from None = false
+is_from (Some start) = true
 
 abbrev pub carries : PaxosMsg → Bool
 carries (PrepareReq m) = false
@@ -59,9 +57,9 @@ past idx = ltb max_log idx
 unfoldable pub either_past : ℕ → ℕ → Bool
 either_past a b = past a || past b
 
-abbrev pub start_past : PromiseSync → Bool
-start_past Nothing = false
-start_past (From start) = past start
+abbrev pub start_past : Option ℕ → Bool
+start_past None = false
+start_past (Some start) = past start
 
 abbrev pub index_above : PaxosMsg → Bool
 index_above (PrepareReq m) = false

@@ -6,7 +6,7 @@ ghost use Rattle.unfit.specs.Unfit.{no_depot, wrong_sender, stranger_of, is_from
 
 use ballot::Ballot;
 use base::{MAX_LOG, MAX_PROPOSAL};
-use messages::{Event, PaxosMsg, PromiseSync};
+use messages::{Event, PaxosMsg};
 use quorum::Configuration;
 
 fn no_depot(c: Configuration, pid: u64) -> bool
@@ -41,12 +41,12 @@ pub fn stranger(c: Configuration, e: Event) -> bool
     }
 }
 
-fn is_from(s: PromiseSync) -> bool
+fn is_from(s: Option<usize>) -> bool
     ensures { result ≡ is_from s }
 {
     match s {
-        PromiseSync::Nothing => false,
-        PromiseSync::From(_) => true,
+        None => false,
+        Some(_) => true,
     }
 }
 
@@ -96,12 +96,12 @@ fn either_past(a: usize, b: usize) -> bool
     past(b)
 }
 
-fn start_past(s: PromiseSync) -> bool
+fn start_past(s: Option<usize>) -> bool
     ensures { result ≡ start_past s }
 {
     match s {
-        PromiseSync::Nothing => false,
-        PromiseSync::From(start) => past(start),
+        None => false,
+        Some(start) => past(start),
     }
 }
 

@@ -1,4 +1,5 @@
 -- What a follower does with each message, `reconnected`, a drain and a restart read and change no place past the depots.
+use Rattle.std.specs.Prelude.{Option, None, Some}
 use Prim.Native.Nat.{ℕ, ◌+◌, min}
 use mathlib.Core.Path.{◌≡◌, refl, ap}
 use mathlib.Core.Bool.{cond}
@@ -6,9 +7,12 @@ use mathlib.Core.List.{List}
 use lib.Dec.{eqb, ltb}
 use Rattle.base.specs.Limits.{max_log}
 use Rattle.ballot.specs.Ballot.{above, same, compare_of, default}
+use Rattle.paxos_box.specs.declared.AcceptedAt.{AcceptedAt}
+use Rattle.paxos_box.specs.declared.CachedPromise.{CachedPromise}
+use Rattle.leader_state.specs.declared.LogSync.{LogSync}
 use Rattle.ballot.specs.declared.Ballot.{Ballot}
-use Rattle.ballot.specs.declared.Order.{Order}
-use Rattle.ballot.specs.declared.Order.TheVariants.{Less, Equal, Greater}
+use Rattle.std.specs.declared.cmp.Ordering.{Ordering}
+use Rattle.std.specs.declared.cmp.Ordering.TheVariants.{Less, Equal, Greater}
 use Rattle.sequence.specs.Sequence.{status_of}
 use Rattle.sequence.specs.declared.SequenceNumber.{SequenceNumber}
 use Rattle.sequence.specs.declared.MessageStatus.{MessageStatus}
@@ -16,17 +20,10 @@ use Rattle.sequence.specs.declared.MessageStatus.TheVariants.{Expected, DroppedP
 use Rattle.quorum.specs.declared.Configuration.{Configuration}
 use Rattle.leader_state.specs.declared.Depot as place
 use Rattle.leader_state.specs.declared.LeaderState.{LeaderState}
-use Rattle.leader_state.specs.declared.Latest.TheVariants as latest
-use Rattle.leader_state.specs.declared.HeldSync.{HeldSync}
-use Rattle.leader_state.specs.declared.HeldSync.TheVariants as held
 use Rattle.leader_state.specs.State.{with_depots, set_latest, forget_all}
 use Rattle.messages.specs.declared.AcceptSync.{AcceptSync}
 use Rattle.messages.specs.declared.Prepare.{Prepare}
 use Rattle.paxos_box.specs.declared.SequencePaxos.{SequencePaxos}
-use Rattle.paxos_box.specs.declared.AcceptedMeta.{AcceptedMeta}
-use Rattle.paxos_box.specs.declared.AcceptedMeta.TheVariants as meta
-use Rattle.paxos_box.specs.declared.CachedMessage.{CachedMessage}
-use Rattle.paxos_box.specs.declared.CachedMessage.TheVariants as cached
 use Rattle.paxos_box.specs.declared.Phase.{Phase}
 use Rattle.paxos_box.specs.declared.Phase.TheVariants as phase
 use Rattle.paxos_box.specs.declared.LogOp.TheVariants.{PutGiven}
@@ -69,7 +66,7 @@ module _ (c : Configuration) (z : List place.Depot) (own : Depot c c.pid) where
       (request c z pid (left_leader pid s) (left_leader pid u) (left pid s u (refl, e))))
 
   -- the ballot is looked at first
-  by-ballot : (p : Order) (n : Ballot) (x y : SequencePaxos) → Pair c z x y → (s t : SequencePaxos) → Pair c z s t → Pair c z (by_ballot p n x s) (by_ballot p n y t)
+  by-ballot : (p : Ordering) (n : Ballot) (x y : SequencePaxos) → Pair c z x y → (s t : SequencePaxos) → Pair c z s t → Pair c z (by_ballot p n x s) (by_ballot p n y t)
   by-ballot Equal n x y q s t p = q
   by-ballot Greater n x y q s t p = lift c z (not_accepted n) (λ s e. push c z _ s (past_box c.depots z s) (refl, e)) s t p
   by-ballot Less n x y q s t p = reconnects n.pid s t p
@@ -81,7 +78,7 @@ module _ (c : Configuration) (z : List place.Depot) (own : Depot c c.pid) where
       lift c z (send_accepted n idx to)
       (λ s e.
       let u = past_box c.depots z s in
-      let at = meta.At (record { n = n; at = next_place s }) in
+      let at = Some (record { n = n; at = next_place s }) in
       push c z _ (set_meta at s) (set_meta at u) (refl, e))
 
   forwards-buffered : (s t : SequencePaxos) → Pair c z s t → Pair c z (forward_buffered s) (forward_buffered t)
@@ -103,7 +100,7 @@ module _ (c : Configuration) (z : List place.Depot) (own : Depot c c.pid) where
       lift c z (acceptsync_put m count)
       (λ s e.
       let u = past_box c.depots z s in
-      let put : SequencePaxos → SequencePaxos = λ x. sync_log m.n m.decided_idx (sync_end (given_sync m count)) (PutGiven (given_sync m count)) (set_cached cached.Nothing x) in
+      let put : SequencePaxos → SequencePaxos = λ x. sync_log m.n m.decided_idx (sync_end (given_sync m count)) (PutGiven (given_sync m count)) (set_cached None x) in
       forwards-buffered (put s) (put u) (refl, e))
 
   follows : (q : SequenceNumber) (s t : SequencePaxos) → Pair c z s t → Pair c z (following q s) (following q t)
@@ -158,9 +155,9 @@ module _ (c : Configuration) (z : List place.Depot) (own : Depot c c.pid) where
   unfolding reply_accepted latest_accepted
   replies n idx = lift c z (reply_accepted n idx) (λ s e. by (latest_accepted n s) s e)
     where
-      by : (m : AcceptedMeta) (s : SequencePaxos) → s.config ≡ c → Pair c z (reply_by m n idx s) (reply_by m n idx (past_box c.depots z s))
-      by (meta.At x) s e = push c z _ s (past_box c.depots z s) (refl, e)
-      by meta.Nothing s e = sends-accepted n idx n.pid s (past_box c.depots z s) (refl, e)
+      by : (m : Option AcceptedAt) (s : SequencePaxos) → s.config ≡ c → Pair c z (reply_by m n idx s) (reply_by m n idx (past_box c.depots z s))
+      by (Some x) s e = push c z _ s (past_box c.depots z s) (refl, e)
+      by None s e = sends-accepted n idx n.pid s (past_box c.depots z s) (refl, e)
 
   updates : (idx : ℕ) (s t : SequencePaxos) → Pair c z s t → Pair c z (update_decided idx s) (update_decided idx t)
   unfolding update_decided
@@ -239,11 +236,11 @@ module _ (c : Configuration) (z : List place.Depot) (own : Depot c c.pid) where
       s u (refl, e))
 
   -- Prepare
-  builds : (x : HeldSync) (s t : SequencePaxos) → Pair c z s t → Pair c z (build_fits x s) (build_fits x t)
-  builds (held.Held x) = fits c z x.sync_idx
-  builds held.Nothing = λ s t p. p
+  builds : (x : Option LogSync) (s t : SequencePaxos) → Pair c z s t → Pair c z (build_fits x s) (build_fits x t)
+  builds (Some x) = fits c z x.sync_idx
+  builds None = λ s t p. p
 
-  tells : (from : ℕ) (x : HeldSync) (s t : SequencePaxos) → Pair c z s t → Pair c z (tell_promise from x s) (tell_promise from x t)
+  tells : (from : ℕ) (x : Option LogSync) (s t : SequencePaxos) → Pair c z s t → Pair c z (tell_promise from x s) (tell_promise from x t)
   unfolding tell_promise cache_promise
   tells from x =
       lift c z (tell_promise from x)
@@ -280,12 +277,12 @@ module _ (c : Configuration) (z : List place.Depot) (own : Depot c c.pid) where
   unfolding resend_messages_follower
   resends-following = lift c z resend_messages_follower (λ s e. by s.state.phase s e)
     where
-      again : (m : CachedMessage) (s : SequencePaxos) → s.config ≡ c → Pair c z (resend_cached m s) (resend_cached m (past_box c.depots z s))
-      again (cached.Held p) s e = push c z _ s (past_box c.depots z s) (refl, e)
-      again cached.Nothing s e = all-requests (recovering s) (recovering (past_box c.depots z s)) (refl, e)
+      again : (m : Option CachedPromise) (s : SequencePaxos) → s.config ≡ c → Pair c z (resend_cached m s) (resend_cached m (past_box c.depots z s))
+      again (Some p) s e = push c z _ s (past_box c.depots z s) (refl, e)
+      again None s e = all-requests (recovering s) (recovering (past_box c.depots z s)) (refl, e)
 
       by : (p : Phase) (s : SequencePaxos) → s.config ≡ c → Pair c z (resend_in p s) (resend_in p (past_box c.depots z s))
-      by phase.Prepare s e = again s.cached_promise_message.message s e
+      by phase.Prepare s e = again s.cached_promise_message s e
       by phase.Recover s e = all-requests s (past_box c.depots z s) (refl, e)
       by phase.Accept s e = (refl, e)
       by phase.None s e = (refl, e)
@@ -293,13 +290,13 @@ module _ (c : Configuration) (z : List place.Depot) (own : Depot c c.pid) where
   -- a drain and a restart
   forgets-alike : (k : ℕ) (l : LeaderState) → k ≡ c.depots → forget_all k (past_in c.depots z l) ≡ past_in c.depots z (forget_all k l)
   unfolding forget_all
-  forgets-alike k l h = rw h (ap (λ (r : List place.Depot). with_depots r l) (mix_first c.depots (set_latest latest.Nothing) l.depots z))
+  forgets-alike k l h = rw h (ap (λ (r : List place.Depot). with_depots r l) (mix_first c.depots (set_latest None) l.depots z))
 
   pub drains : (s t : SequencePaxos) → Pair c z s t → Pair c z (drained s) (drained t)
   unfolding drained
   drains =
       lift c z drained
-      (λ s e. (ap (λ (l : LeaderState). set_meta meta.Nothing (with_leader l s)) (forgets-alike s.config.depots s.leader_state (ap (λ (x : Configuration). x.depots) e)), e))
+      (λ s e. (ap (λ (l : LeaderState). set_meta None (with_leader l s)) (forgets-alike s.config.depots s.leader_state (ap (λ (x : Configuration). x.depots) e)), e))
 
   pub restarts : (s t : SequencePaxos) → Pair c z s t → Pair c z (restarted s) (restarted t)
   unfolding restarted

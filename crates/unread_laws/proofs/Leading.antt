@@ -1,4 +1,5 @@
 -- What a leader does with each event reads and changes no place past the depots.
+use Rattle.std.specs.Prelude.{Option, None, Some}
 use Prim.Native.Nat.{ℕ}
 use mathlib.Core.Path.{◌≡◌, refl, ap, sym, subst, ◌∙◌}
 use mathlib.Core.Bool.{Bool, true, false, cond}
@@ -6,6 +7,7 @@ use mathlib.Core.List.{List}
 use native.Mathlib.Omega.{arith}
 use lib.Dec.{eqb, ltb}
 use Rattle.ballot.specs.Ballot.{above, same}
+use Rattle.leader_state.specs.declared.LogSync.{LogSync}
 use Rattle.ballot.specs.declared.Ballot.{Ballot}
 use Rattle.quorum.specs.Quorum.{reaches_read, reaches_write}
 use Rattle.quorum.specs.declared.Configuration.{Configuration}
@@ -13,9 +15,6 @@ use Rattle.leader_state.specs.declared.Depot as place
 use Rattle.leader_state.specs.declared.LeaderState.{LeaderState}
 use Rattle.leader_state.specs.declared.PromiseMetaData.{PromiseMetaData}
 use Rattle.leader_state.specs.declared.PromiseState.TheVariants.{NotPromised, Promised, PromisedHigher}
-use Rattle.leader_state.specs.declared.Latest.TheVariants as latest
-use Rattle.leader_state.specs.declared.HeldSync.{HeldSync}
-use Rattle.leader_state.specs.declared.HeldSync.TheVariants.{Nothing, Held}
 use Rattle.leader_state.specs.State.{fresh, with_depots, with_best, with_of, set_accepted, set_promise_state}
 use Rattle.leader_state.specs.Promises.{beats_best, best_after, promised_count, promise_kept, max_decided}
 use Rattle.leader_state.specs.Places.{accepted_at, promised_followers, preparable_peers}
@@ -84,10 +83,10 @@ module _ (c : Configuration) (z : List place.Depot) (own : Depot c c.pid) where
       (λ s e. (ap (λ (l : LeaderState). set_promised n (with_leader l s)) (places-anew n s.config.depots s.leader_state (counted s e)), e))
 
   -- a promise kept, and whether a read quorum has promised
-  kept-alike : (m : PromiseMetaData) (sync : HeldSync) (check : Bool) (l : LeaderState) → Depot c m.pid → promise_kept m sync check (past_in c.depots z l) ≡ past_in c.depots z (promise_kept m sync check l)
+  kept-alike : (m : PromiseMetaData) (sync : Option LogSync) (check : Bool) (l : LeaderState) → Depot c m.pid → promise_kept m sync check (past_in c.depots z l) ≡ past_in c.depots z (promise_kept m sync check l)
   kept-alike m sync check l d = ap (with_best (best_after m sync check l)) (place_set c z m.pid (set_promise_state (Promised m)) l d)
 
-  keeps : (m : PromiseMetaData) (sync : HeldSync) (check : Bool) → Depot c m.pid → (s t : SequencePaxos) → Pair c z s t → Pair c z (keep_promise m sync check s) (keep_promise m sync check t)
+  keeps : (m : PromiseMetaData) (sync : Option LogSync) (check : Bool) → Depot c m.pid → (s t : SequencePaxos) → Pair c z s t → Pair c z (keep_promise m sync check s) (keep_promise m sync check t)
   keeps m sync check d =
       lift c z (keep_promise m sync check)
       (λ s e. (ap (λ (l : LeaderState). with_leader l s) (kept-alike m sync check s.leader_state d), e))
@@ -95,7 +94,7 @@ module _ (c : Configuration) (z : List place.Depot) (own : Depot c c.pid) where
   promised-alike : (n : ℕ) (l : LeaderState) → n ≡ c.depots → promised_count n (past_in c.depots z l) ≡ promised_count n l
   promised-alike n l h = rw h (counts-alike c.depots (past_in c.depots z l) l (leaders-alike c z l) 0).1
 
-  reached-alike : (m : PromiseMetaData) (sync : HeldSync) (check : Bool) (s : SequencePaxos) → s.config ≡ c → Depot c m.pid → reached m sync check (past_box c.depots z s) ≡ reached m sync check s
+  reached-alike : (m : PromiseMetaData) (sync : Option LogSync) (check : Bool) (s : SequencePaxos) → s.config ≡ c → Depot c m.pid → reached m sync check (past_box c.depots z s) ≡ reached m sync check s
   reached-alike m sync check s e d =
       ap (reaches_read s.config.quorum)
       (ap (promised_count s.config.depots) (kept-alike m sync check s.leader_state d)
@@ -106,7 +105,7 @@ module _ (c : Configuration) (z : List place.Depot) (own : Depot c c.pid) where
 
   own-promise : (s t : SequencePaxos) → Pair c z s t → Pair c z (own_promise s) (own_promise t)
   unfolding own_promise
-  own-promise = lift c z own_promise (λ s e. keeps (own_meta s) Nothing true (own-pid s e) s (past_box c.depots z s) (refl, e))
+  own-promise = lift c z own_promise (λ s e. keeps (own_meta s) None true (own-pid s e) s (past_box c.depots z s) (refl, e))
 
   becomes-leader : (n : Ballot) (s t : SequencePaxos) → Pair c z s t → Pair c z (become_leader n s) (become_leader n t)
   unfolding become_leader
@@ -137,8 +136,8 @@ module _ (c : Configuration) (z : List place.Depot) (own : Depot c c.pid) where
   unfolding prepare_again
   again from d s t p =
       let a = on-depot c z from (set_promise_state NotPromised) d s t p in
-      let b = remember c z from d latest.Nothing (on_depot from (set_promise_state NotPromised) s) (on_depot from (set_promise_state NotPromised) t) a in
-      prepare c z from (set_latest_of from latest.Nothing (on_depot from (set_promise_state NotPromised) s)) (set_latest_of from latest.Nothing (on_depot from (set_promise_state NotPromised) t)) b
+      let b = remember c z from d None (on_depot from (set_promise_state NotPromised) s) (on_depot from (set_promise_state NotPromised) t) a in
+      prepare c z from (set_latest_of from None (on_depot from (set_promise_state NotPromised) s)) (set_latest_of from None (on_depot from (set_promise_state NotPromised) t)) b
 
   pub requested : (n : Ballot) (from : ℕ) → Depot c from → (s t : SequencePaxos) → Pair c z s t → Pair c z (handle_prepare_req n from s) (handle_prepare_req n from t)
   unfolding handle_prepare_req
@@ -202,9 +201,9 @@ module _ (c : Configuration) (z : List place.Depot) (own : Depot c c.pid) where
       let put = sync_log s.leader_state.n_leader highest end op in
       choose c z (ltb end highest) _ refl (unfit s) (put s) (unfit u) (put u) (refl, e) (refl, e))
 
-  syncs-by : (x : HeldSync) (brought : Bool) (highest : ℕ) (s t : SequencePaxos) → Pair c z s t → Pair c z (sync_by x brought highest s) (sync_by x brought highest t)
+  syncs-by : (x : Option LogSync) (brought : Bool) (highest : ℕ) (s t : SequencePaxos) → Pair c z s t → Pair c z (sync_by x brought highest s) (sync_by x brought highest t)
   unfolding sync_held sync_unfit
-  syncs-by (Held x) brought highest = lift c z (sync_held x brought highest) (λ s e. by brought s e)
+  syncs-by (Some x) brought highest = lift c z (sync_held x brought highest) (λ s e. by brought s e)
     where
       by : (b : Bool) (s : SequencePaxos) → s.config ≡ c → Pair c z (sync_held x b highest s) (sync_held x b highest (past_box c.depots z s))
       by true s e =
@@ -217,7 +216,7 @@ module _ (c : Configuration) (z : List place.Depot) (own : Depot c c.pid) where
           choose c z (sync_unfit x (change_of false s) s.leader_state.max_promise.meta.decided_idx s) _ refl
           (unfit s) (leader_syncs highest (sync_end x) (put_op false x) s) (unfit u) (leader_syncs highest (sync_end x) (put_op false x) u)
           (refl, e) (syncs highest (sync_end x) (put_op false x) s u (refl, e))
-  syncs-by Nothing brought highest = lift c z (sync_by Nothing brought highest) (λ s e. syncs highest (log_length s) Keep s (past_box c.depots z s) (refl, e))
+  syncs-by None brought highest = lift c z (sync_by None brought highest) (λ s e. syncs highest (log_length s) Keep s (past_box c.depots z s) (refl, e))
 
   with-best : (brought : Bool) (s t : SequencePaxos) → Pair c z s t → Pair c z (sync_with_best brought s) (sync_with_best brought t)
   unfolding sync_with_best
@@ -246,11 +245,11 @@ module _ (c : Configuration) (z : List place.Depot) (own : Depot c c.pid) where
       to-followers each.AcceptSync (own_accepted (lead f)) (own_accepted (lead g)) (own-accepted (lead f) (lead g) h)
 
   -- a Promise
-  keeps_sync : (b : Bool) (x : HeldSync) (s t : SequencePaxos) → Pair c z s t → Pair c z (keep_sync b x s) (keep_sync b x t)
+  keeps_sync : (b : Bool) (x : Option LogSync) (s t : SequencePaxos) → Pair c z s t → Pair c z (keep_sync b x s) (keep_sync b x t)
   keeps_sync true x = lift c z (keep_sync true x) (λ s e. (refl, e))
   keeps_sync false x = λ s t p. p
 
-  prepared : (m : PromiseMetaData) (x : HeldSync) → Depot c m.pid → (s t : SequencePaxos) → Pair c z s t → Pair c z (handle_promise_prepare m x s) (handle_promise_prepare m x t)
+  prepared : (m : PromiseMetaData) (x : Option LogSync) → Depot c m.pid → (s t : SequencePaxos) → Pair c z s t → Pair c z (handle_promise_prepare m x s) (handle_promise_prepare m x t)
   unfolding handle_promise_prepare
   prepared m x d =
       lift c z (handle_promise_prepare m x)
@@ -266,9 +265,9 @@ module _ (c : Configuration) (z : List place.Depot) (own : Depot c c.pid) where
 
   late : (m : PromiseMetaData) → Depot c m.pid → (s t : SequencePaxos) → Pair c z s t → Pair c z (handle_promise_accept m s) (handle_promise_accept m t)
   unfolding handle_promise_accept
-  late m d s t p = sync-to c z m.pid d (keep_promise m Nothing false s) (keep_promise m Nothing false t) (keeps m Nothing false d s t p)
+  late m d s t p = sync-to c z m.pid d (keep_promise m None false s) (keep_promise m None false t) (keeps m None false d s t p)
 
-  pub promises : (n : Ballot) (m : PromiseMetaData) (x : HeldSync) → Depot c m.pid → (s t : SequencePaxos) → Pair c z s t → Pair c z (handle_promise n m x s) (handle_promise n m x t)
+  pub promises : (n : Ballot) (m : PromiseMetaData) (x : Option LogSync) → Depot c m.pid → (s t : SequencePaxos) → Pair c z s t → Pair c z (handle_promise n m x s) (handle_promise n m x t)
   unfolding handle_promise
   promises n m x d =
       lift c z (handle_promise n m x)

@@ -1,4 +1,5 @@
 -- Refusals 1 to 4 of every state are read off what is in use.
+use Rattle.std.specs.Prelude.{Option, None, Some}
 use Prim.Native.Nat.{ℕ, zero, suc, ◌+◌, ◌-◌, ◌<◌, ◌≤◌}
 use mathlib.Core.Path.{◌≡◌, refl, sym, ap, ◌∙◌}
 use mathlib.Core.Bool.{Bool, ◌||◌}
@@ -6,11 +7,10 @@ use mathlib.Core.List.{List, [], ◌∷◌, map}
 use native.Mathlib.Omega.{arith}
 use lib.ListN.{length, get_or, take}
 use lib.Seq.{get_or-take}
+use Rattle.leader_state.specs.declared.LogSync.{LogSync}
 use Rattle.quorum.specs.declared.Configuration.{Configuration}
 use Rattle.leader_state.specs.declared.Depot.{Depot}
 use Rattle.leader_state.specs.declared.LeaderState.{LeaderState}
-use Rattle.leader_state.specs.declared.HeldSync.{HeldSync}
-use Rattle.leader_state.specs.declared.HeldSync.TheVariants as held
 use Rattle.leader_state.specs.State.{fresh, with_depots}
 use Rattle.messages.specs.declared.Head.{Head}
 use Rattle.messages.specs.declared.Row.{Row}
@@ -65,7 +65,7 @@ places_same f n l = any_same _ _ n (λ i h. let k : (i + 1) - 1 < n = omega arit
 -- what record and row alone say
 position-same : (c : Configuration) (r : Record) → position_past c r ≡ position_past c (used_node c r)
 unfolding position_past
-position-same c r = ap (λ (b : Bool). b || meta_past r.outgoing r.latest_accepted_meta.meta) (places_same (place_past r.outgoing) c.depots r.leader_state)
+position-same c r = ap (λ (b : Bool). b || meta_past r.outgoing r.latest_accepted_meta) (places_same (place_past r.outgoing) c.depots r.leader_state)
 
 off-same : (c : Configuration) (r : Record) (row : Row) → head_off r row ≡ head_off (used_node c r) (used_row r.outgoing row)
 unfolding head_off
@@ -86,10 +86,10 @@ state-same c r row =
     rw (position-same c r, off-same c r row, p, foreign-same c r row)
 
 -- entries
-held-above : (x : HeldSync) (l : List ℕ) → held_above x l ≡ any_above (held_entries x l)
+held-above : (x : Option LogSync) (l : List ℕ) → held_above x l ≡ any_above (held_entries x l)
 unfolding any_above any_below
-held-above held.Nothing l = refl
-held-above (held.Held x) l = refl
+held-above None l = refl
+held-above (Some x) l = refl
 
 -- an entry of some message that waits is above its limit
 queue_above : List Msg → ℕ → Bool

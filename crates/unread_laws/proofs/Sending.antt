@@ -1,4 +1,5 @@
 -- What goes to one depot, and to each of several, reads and changes no place past the depots.
+use Rattle.std.specs.Prelude.{Option, None, Some}
 use Prim.Native.Nat.{ℕ, zero, suc, ◌-◌, ◌≤◌}
 use mathlib.Core.Path.{◌≡◌, refl, ap}
 use mathlib.Core.Bool.{Bool, false}
@@ -12,8 +13,6 @@ use Rattle.leader_state.specs.declared.Depot as place
 use Rattle.leader_state.specs.declared.PromiseMetaData.{PromiseMetaData}
 use Rattle.leader_state.specs.declared.PromiseState.{PromiseState}
 use Rattle.leader_state.specs.declared.PromiseState.TheVariants.{NotPromised, Promised, PromisedHigher}
-use Rattle.leader_state.specs.declared.Latest.{Latest}
-use Rattle.leader_state.specs.declared.Latest.TheVariants.{Nothing, At}
 use Rattle.leader_state.specs.State.{set_latest, next_session, next_counter}
 use Rattle.paxos_box.specs.declared.SequencePaxos.{SequencePaxos}
 use Rattle.paxos_box.specs.Box.{unfit, at_top, next_place}
@@ -54,7 +53,7 @@ module _ (c : Configuration) (z : List place.Depot) where
         choose c z (leb largest (the_depot to s).seq_num.counter) (leb largest (the_depot to u).seq_num.counter) (ap (λ (x : place.Depot). leb largest x.seq_num.counter) (depot-alike c z to s d))
         (at_top s) (on_depot to next_counter s) (at_top u) (on_depot to next_counter u) (refl, e) (on-depot c z to next_counter d s u (refl, e)))
 
-    pub remember : (l : Latest) (s t : SequencePaxos) → Pair c z s t → Pair c z (set_latest_of to l s) (set_latest_of to l t)
+    pub remember : (l : Option ℕ) (s t : SequencePaxos) → Pair c z s t → Pair c z (set_latest_of to l s) (set_latest_of to l t)
     remember l = on-depot c z to (set_latest l) d
 
     session : (s t : SequencePaxos) → Pair c z s t → Pair c z (new_session to s) (new_session to t)
@@ -62,7 +61,7 @@ module _ (c : Configuration) (z : List place.Depot) where
     session s t p =
         let a = next-session s t p in
         let b = next-number (next_session_of to s) (next_session_of to t) a in
-        remember Nothing (next_seq_num_of to (next_session_of to s)) (next_seq_num_of to (next_session_of to t)) b
+        remember None (next_seq_num_of to (next_session_of to s)) (next_seq_num_of to (next_session_of to t)) b
 
     push-sync : (from : ℕ) (s t : SequencePaxos) → Pair c z s t → Pair c z (push_acc_sync from to s) (push_acc_sync from to t)
     unfolding push_acc_sync
@@ -112,9 +111,9 @@ module _ (c : Configuration) (z : List place.Depot) where
         lift c z (new_accept_decide from count to)
         (λ s e.
         let u = past_box c.depots z s in
-        let a = set_latest_of to (At (next_place s)) s in
-        let b = set_latest_of to (At (next_place s)) u in
-        push-entries from count (next_seq_num_of to a) (next_seq_num_of to b) (next-number a b (remember (At (next_place s)) s u (refl, e))))
+        let a = set_latest_of to (Some (next_place s)) s in
+        let b = set_latest_of to (Some (next_place s)) u in
+        push-entries from count (next_seq_num_of to a) (next_seq_num_of to b) (next-number a b (remember (Some (next_place s)) s u (refl, e))))
 
     pub entries-to : (from count : ℕ) (s t : SequencePaxos) → Pair c z s t → Pair c z (accept_decide_to from count to s) (accept_decide_to from count to t)
     unfolding accept_decide_to
@@ -122,9 +121,9 @@ module _ (c : Configuration) (z : List place.Depot) where
         lift c z (accept_decide_to from count to)
         (λ s e. rw (latest-alike s) (by (latest_accdec to s) s e))
       where
-        by : (l : Latest) (s : SequencePaxos) → s.config ≡ c → Pair c z (accept_decide_by from count to l s) (accept_decide_by from count to l (past_box c.depots z s))
-        by (At at) s e = join-to from count at s (past_box c.depots z s) (refl, e)
-        by Nothing s e = new-entries from count s (past_box c.depots z s) (refl, e)
+        by : (l : Option ℕ) (s : SequencePaxos) → s.config ≡ c → Pair c z (accept_decide_by from count to l s) (accept_decide_by from count to l (past_box c.depots z s))
+        by (Some at) s e = join-to from count at s (past_box c.depots z s) (refl, e)
+        by None s e = new-entries from count s (past_box c.depots z s) (refl, e)
 
     push-decide : (s t : SequencePaxos) → Pair c z s t → Pair c z (push_decide to s) (push_decide to t)
     unfolding push_decide
@@ -138,9 +137,9 @@ module _ (c : Configuration) (z : List place.Depot) where
         lift c z (decide_to to)
         (λ s e. rw (latest-alike s) (by (latest_accdec to s) s e))
       where
-        by : (l : Latest) (s : SequencePaxos) → s.config ≡ c → Pair c z (decide_by to l s) (decide_by to l (past_box c.depots z s))
-        by (At at) s e = join-to 0 0 at s (past_box c.depots z s) (refl, e)
-        by Nothing s e =
+        by : (l : Option ℕ) (s : SequencePaxos) → s.config ≡ c → Pair c z (decide_by to l s) (decide_by to l (past_box c.depots z s))
+        by (Some at) s e = join-to 0 0 at s (past_box c.depots z s) (refl, e)
+        by None s e =
             let u = past_box c.depots z s in
             push-decide (next_seq_num_of to s) (next_seq_num_of to u) (next-number s u (refl, e))
 

@@ -1,4 +1,5 @@
 -- Depots that differ in nothing that is in use are seen as the same lists, but for the places past the depots, and make deciding boxes that differ only there.
+use Rattle.std.specs.Prelude.{Option, None, Some}
 use Prim.Native.Nat.{ℕ, zero, suc, ◌+◌, ◌-◌, ◌<◌}
 use mathlib.Core.Path.{◌≡◌, refl, sym, ap, ◌∙◌}
 use mathlib.Core.Bool.{Bool, true, false, cond}
@@ -10,22 +11,21 @@ use lib.Seq.{length-take-le}
 use borrow.Author.Tests.{ltb-true}
 use Rattle.base.specs.Limits.{max_depots, max_log}
 use Rattle.base.specs.Lists.{tabulate}
+use Rattle.leader_state.specs.declared.LogSync.{LogSync}
 use Rattle.ballot.specs.declared.Ballot.{Ballot}
 use Rattle.sequence.specs.declared.SequenceNumber.{SequenceNumber}
 use Rattle.quorum.specs.declared.Configuration.{Configuration}
 use Rattle.leader_state.specs.declared.Depot as place
 use Rattle.leader_state.specs.declared.LeaderState.{LeaderState}
 use Rattle.leader_state.specs.declared.MaxPromise.{MaxPromise}
-use Rattle.leader_state.specs.declared.HeldSync.{HeldSync}
-use Rattle.leader_state.specs.declared.HeldSync.TheVariants as held
 use Rattle.leader_state.specs.State.{fresh, depot_of}
 use Rattle.leader_state.specs.Places.{marks}
 use Rattle.messages.specs.declared.Event.{Event}
 use Rattle.paxos_box.specs.declared.SequencePaxos.{SequencePaxos}
 use Rattle.paxos_box.specs.declared.InternalStorage.{InternalStorage}
 use Rattle.paxos_box.specs.declared.State.{State}
-use Rattle.paxos_box.specs.declared.LatestAccepted.{LatestAccepted}
-use Rattle.paxos_box.specs.declared.Cached.{Cached}
+use Rattle.paxos_box.specs.declared.AcceptedAt.{AcceptedAt}
+use Rattle.paxos_box.specs.declared.CachedPromise.{CachedPromise}
 use Rattle.paxos_box.specs.declared.Sight.{Sight}
 use Rattle.follower.specs.Follower.{count_of}
 use Rattle.record.specs.declared.Record.{Record}
@@ -62,7 +62,7 @@ same-leader : {n m : Ballot} {a b : List place.Depot} {x y : MaxPromise} → n �
 same-leader p q r = rw (p, q, r)
 
 same-record :
-    {s s' : InternalStorage} {a a' : State} {b b' : Buffered} {o o' : ℕ} {l l' : LeaderState} {m m' : LatestAccepted} {q q' : SequenceNumber} {h h' : Cached}
+    {s s' : InternalStorage} {a a' : State} {b b' : Buffered} {o o' : ℕ} {l l' : LeaderState} {m m' : Option AcceptedAt} {q q' : SequenceNumber} {h h' : Option CachedPromise}
     → s ≡ s' → a ≡ a' → b ≡ b' → o ≡ o' → l ≡ l' → m ≡ m' → q ≡ q' → h ≡ h'
     → ◌≡◌ {A = Record}
     (record { internal_storage = s; state = a; buffered_proposals = b; outgoing = o; leader_state = l; latest_accepted_meta = m; current_seq_num = q; cached_promise_message = h })
@@ -136,7 +136,7 @@ module _ (c : Configuration) (e : Event) (entries : List ℕ) (z : List place.De
       sighted m =
           record {
             accdec = m;
-            accepted = accepted_there x.queue x.node.latest_accepted_meta.meta;
+            accepted = accepted_there x.queue x.node.latest_accepted_meta;
             held_change = held_first (best_sync x.node) x.log x.best;
             brought_change = brought_change (brought e) x.log (length x.log) entries;
           }
@@ -151,9 +151,9 @@ unfolding perform_view new_log new_buffered cached_list new_cached new_best new_
 performed-alike e entries n z s x = refl
 
 -- the lists of an unbroken record are as long as it counts
-held-counted : (x : HeldSync) (l : List ℕ) → length l ≡ max_log → SyncFit x l → length (held_entries x l) ≡ count_of x
-held-counted held.Nothing l e h = refl
-held-counted (held.Held x) l e h = length-take-le x.len l (omega (arith, e, h.0))
+held-counted : (x : Option LogSync) (l : List ℕ) → length l ≡ max_log → SyncFit x l → length (held_entries x l) ≡ count_of x
+held-counted None l e h = refl
+held-counted (Some x) l e h = length-take-le x.len l (omega (arith, e, h.0))
 
 pub counted-whole : (c : Configuration) (w : World) → Shape w.node w.row → Lengths w.lists → Whole c w.node w.row w.lists → Counted (view_of w)
 unfolding view_of queue_of

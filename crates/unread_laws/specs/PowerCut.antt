@@ -1,5 +1,5 @@
 -- What a restart leaves, and a box that kept only promise, accepted round, log and decided index through a power cut.
-use Rattle.std.specs.Prelude.{ℕ, ◌-◌, List, ◌++◌, take, replicate}
+use Rattle.std.specs.Prelude.{ℕ, ◌-◌, List, ◌++◌, take, replicate, None}
 use Rattle.base.specs.Limits.{max_log, max_store, max_messages}
 use Rattle.base.specs.Lists.{on_first}
 use Rattle.ballot.specs.Ballot.{default}
@@ -10,8 +10,6 @@ use Rattle.messages.specs.Messages.{no_head}
 use Rattle.messages.specs.declared.Row.{Row}
 use Rattle.paxos_box.specs.declared.Role.TheVariants.{Follower}
 use Rattle.paxos_box.specs.declared.Phase.TheVariants as phase
-use Rattle.paxos_box.specs.declared.AcceptedMeta.TheVariants as meta
-use Rattle.paxos_box.specs.declared.CachedMessage.TheVariants as message
 use Rattle.record.specs.declared.Record.{Record}
 use Rattle.record.specs.Record.{fresh_record}
 use Rattle.hire_book.specs.Book.{book_of, fresh_book}
@@ -28,9 +26,9 @@ restarted_node c r =
       buffered_proposals = record { entries = r.buffered_proposals.entries; len = 0 };
       outgoing = 0;
       leader_state = record { n_leader = default; depots = on_first c.depots (λ d. fresh) r.leader_state.depots; max_promise = no_best };
-      latest_accepted_meta = record { meta = meta.Nothing };
+      latest_accepted_meta = None;
       current_seq_num = first;
-      cached_promise_message = record { message = message.Nothing };
+      cached_promise_message = None;
     }
 
 -- the whole depot after it: the log, both sync buffers, row and store as found, the book made again from the decided entries

@@ -1,4 +1,5 @@
 -- The deciding box is made of the view: `box-viewed`.
+use Rattle.std.specs.Prelude.{Option, None, Some}
 use Prim.Native.Nat.{ℕ, zero, suc, ◌+◌, ◌≤◌, ◌<◌}
 use mathlib.Core.Path.{◌≡◌, refl, sym, ap, ◌∙◌, fun_ext}
 use mathlib.Core.Bool.{Bool, true, false, ◌&&◌}
@@ -9,22 +10,16 @@ use lib.ListN.{length, take, get_or, length-take, length-map}
 use lib.Seq.{get_or-take}
 use borrow.Author.Tests.{ltb-true}
 use Rattle.base.specs.Limits.{max_store}
+use Rattle.paxos_box.specs.declared.AcceptedAt.{AcceptedAt}
+use Rattle.leader_state.specs.declared.LogSync.{LogSync}
 use Rattle.quorum.specs.declared.Configuration.{Configuration}
 use Rattle.leader_state.specs.State.{depot_of}
 use Rattle.leader_state.specs.Places.{marks}
-use Rattle.leader_state.specs.declared.Latest.{Latest}
-use Rattle.leader_state.specs.declared.Latest.TheVariants as latest
-use Rattle.leader_state.specs.declared.HeldSync.{HeldSync}
-use Rattle.leader_state.specs.declared.HeldSync.TheVariants as held
 use Rattle.messages.specs.declared.Head.{Head}
 use Rattle.messages.specs.declared.Row.{Row}
 use Rattle.messages.specs.declared.Event.{Event}
 use Rattle.messages.specs.declared.PaxosMsg.{PaxosMsg}
-use Rattle.messages.specs.declared.PromiseSync.{PromiseSync}
-use Rattle.messages.specs.declared.PromiseSync.TheVariants as sync
 use Rattle.messages.specs.Messages.{no_head, is_accept_decide, is_accepted}
-use Rattle.paxos_box.specs.declared.AcceptedMeta.{AcceptedMeta}
-use Rattle.paxos_box.specs.declared.AcceptedMeta.TheVariants as meta
 use Rattle.paxos_box.specs.declared.Sight.{Sight}
 use Rattle.record.specs.Record.{load_of}
 use Rattle.sight.specs.Sight.{first_from, changes_at, first_change, held_change, brought, brought_change, head_at, accdec_at, accepted_at, accdec_on, accepted_on, accdec_marks, accepted_mark, queue_entries, sight_of}
@@ -48,13 +43,13 @@ change-same : (log : List ℕ) (len start : ℕ) (suffix : List ℕ) → first_c
 unfolding first_change changes_at
 change-same log len start suffix = first-same _ _ len 0 (λ j a b. let k : j < len = omega arith in rw (get_or-take len log j 0 k))
 
-held-viewed : (x : HeldSync) (log : List ℕ) (len : ℕ) (best : List ℕ) → length (take len log) ≡ len → held_change x log len best ≡ held_first x (take len log) (held_entries x best)
-held-viewed held.Nothing log len best e = sym e
-held-viewed (held.Held x) log len best e = rw e (change-same log len x.sync_idx (take x.len best))
+held-viewed : (x : Option LogSync) (log : List ℕ) (len : ℕ) (best : List ℕ) → length (take len log) ≡ len → held_change x log len best ≡ held_first x (take len log) (held_entries x best)
+held-viewed None log len best e = sym e
+held-viewed (Some x) log len best e = rw e (change-same log len x.sync_idx (take x.len best))
 
-brought-viewed : (x : PromiseSync) (log : List ℕ) (len : ℕ) (entries : List ℕ) → length (take len log) ≡ len → brought_change x log len entries ≡ brought_change x (take len log) (length (take len log)) entries
-brought-viewed sync.Nothing log len entries e = sym e
-brought-viewed (sync.From start) log len entries e = rw e (change-same log len start entries)
+brought-viewed : (x : Option ℕ) (log : List ℕ) (len : ℕ) (entries : List ℕ) → length (take len log) ≡ len → brought_change x log len entries ≡ brought_change x (take len log) (length (take len log)) entries
+brought-viewed None log len entries e = sym e
+brought-viewed (Some start) log len entries e = rw e (change-same log len start entries)
 
 -- What stands at a place of the queue
 
@@ -81,15 +76,15 @@ module _ (row : Row) (store : List ℕ) (len : ℕ) (e : length (queue_of len (l
       go true p = rw (msg-there i (ltb-true i len p))
       go false p = refl
 
-  accdec-there : (l : Latest) → accdec_on row len l ≡ accdec_there (queue_of len (lent row store)) l
+  accdec-there : (l : Option ℕ) → accdec_on row len l ≡ accdec_there (queue_of len (lent row store)) l
   unfolding accdec_at
-  accdec-there latest.Nothing = refl
-  accdec-there (latest.At at) = test-there is_accept_decide at
+  accdec-there None = refl
+  accdec-there (Some at) = test-there is_accept_decide at
 
-  accepted-there : (m : AcceptedMeta) → accepted_on row len m ≡ accepted_there (queue_of len (lent row store)) m
+  accepted-there : (m : Option AcceptedAt) → accepted_on row len m ≡ accepted_there (queue_of len (lent row store)) m
   unfolding accepted_at
-  accepted-there meta.Nothing = refl
-  accepted-there (meta.At a) = test-there is_accepted a.at
+  accepted-there None = refl
+  accepted-there (Some a) = test-there is_accepted a.at
 
 -- how many entries the queue carries
 
@@ -112,9 +107,9 @@ module _ (c : Configuration) (e : Event) (entries : List ℕ) (w : World) (k : C
   unfolding accdec_marks view_of
   marks-viewed = ap (marks c.depots) (fun_ext (λ pid. accdec-there w.row w.lists.store w.node.outgoing k.queue (depot_of pid w.node.leader_state).latest))
 
-  accepted-viewed : accepted_mark w.node w.row ≡ accepted_there (view_of w).queue w.node.latest_accepted_meta.meta
+  accepted-viewed : accepted_mark w.node w.row ≡ accepted_there (view_of w).queue w.node.latest_accepted_meta
   unfolding view_of
-  accepted-viewed = accepted-there w.row w.lists.store w.node.outgoing k.queue w.node.latest_accepted_meta.meta
+  accepted-viewed = accepted-there w.row w.lists.store w.node.outgoing k.queue w.node.latest_accepted_meta
 
   sight-viewed : sight_of c w.node w.row e w.lists.log w.lists.best entries ≡ sight_view c e entries (view_of w)
   unfolding sight_view view_of

@@ -1,20 +1,14 @@
 -- The lists of a view begin the cells they are read from, before a step and after it.
+use Rattle.std.specs.Prelude.{Option, None, Some}
 use Prim.Native.Nat.{ℕ, ◌+◌, ◌≤◌}
 use mathlib.Core.Path.{◌≡◌, refl, sym, ap, ◌∙◌}
 use mathlib.Core.List.{List, ◌++◌, append_assoc, append-nil}
 use native.Mathlib.Omega.{arith}
 use lib.ListN.{length, take, drop, length-take}
 use lib.Seq.{take-take, take-append_seam, length-take-le}
-use Rattle.leader_state.specs.declared.HeldSync.{HeldSync}
-use Rattle.leader_state.specs.declared.HeldSync.TheVariants as held
+use Rattle.leader_state.specs.declared.LogSync.{LogSync}
 use Rattle.paxos_box.specs.declared.LogOp.{LogOp}
 use Rattle.paxos_box.specs.declared.LogOp.TheVariants as log
-use Rattle.paxos_box.specs.declared.CachedOp.{CachedOp}
-use Rattle.paxos_box.specs.declared.CachedOp.TheVariants as cached
-use Rattle.paxos_box.specs.declared.BestOp.{BestOp}
-use Rattle.paxos_box.specs.declared.BestOp.TheVariants as best
-use Rattle.paxos_box.specs.declared.BufferOp.{BufferOp}
-use Rattle.paxos_box.specs.declared.BufferOp.TheVariants as buffer
 use Rattle.follower.specs.Follower.{count_of}
 use Rattle.storage.specs.Storage.{put_at, end_after, log_after, cached_after, best_after, buffer_after}
 use Rattle.storage.proofs.Laws.{put-parts, start_of, brought_by, log-put}
@@ -62,26 +56,26 @@ module _ (given held cells l : List ℕ) (len : ℕ) (h : len ≤ length l) (f :
       rw (e, log-put op len given cells cellsB kept l a (op-end op p)) (put_front (start_of op len) (brought_by op given cells ++ take kept cellsB) l)
 
 -- the buffered proposals
-pub buffer-front : (op : BufferOp) (n len : ℕ) (given l : List ℕ) → Front (buffer_to op n given (take len l)) (buffer_after op len given l)
-buffer-front buffer.Keep n len given l = front-trans (take n (take len l)) (take len l) l (front-take n (take len l)) (front-take len l)
-buffer-front (buffer.Add k) n len given l = put_front len (take k given) l
+pub buffer-front : (op : Option ℕ) (n len : ℕ) (given l : List ℕ) → Front (buffer_to op n given (take len l)) (buffer_after op len given l)
+buffer-front None n len given l = front-trans (take n (take len l)) (take len l) l (front-take n (take len l)) (front-take len l)
+buffer-front (Some k) n len given l = put_front len (take k given) l
 
 -- the entries of a sync are the first of its buffer
-pub held-front : (x : HeldSync) (l : List ℕ) → Front (held_entries x l) l
-held-front held.Nothing l = refl
-held-front (held.Held x) l = front-take x.len l
+pub held-front : (x : Option LogSync) (l : List ℕ) → Front (held_entries x l) l
+held-front None l = refl
+held-front (Some x) l = front-take x.len l
 
-pub cached-front : (op : CachedOp) (l cells c buffer : List ℕ) → Front l cells → Front c buffer → Front (cached_to op l c) (cached_after op cells buffer)
-cached-front cached.Keep l cells c buffer f g = g
-cached-front (cached.FromLog x) l cells c buffer f g =
+pub cached-front : (op : Option LogSync) (l cells c buffer : List ℕ) → Front l cells → Front c buffer → Front (cached_to op l c) (cached_after op cells buffer)
+cached-front None l cells c buffer f g = g
+cached-front (Some x) l cells c buffer f g =
     front-over (take x.len (drop x.sync_idx l)) (take x.len (drop x.sync_idx cells)) buffer
     (front-both x.len (drop x.sync_idx l) (drop x.sync_idx cells) (front-drop x.sync_idx l cells f))
 
-pub best-front : (op : BestOp) (given b buffer : List ℕ) → Front b buffer → Front (best_to op given b) (best_after op given buffer)
-best-front best.Keep given b buffer f = f
-best-front (best.Given n) given b buffer f = front-over (take n given) (take n given) buffer (front_same (take n given))
+pub best-front : (op : Option ℕ) (given b buffer : List ℕ) → Front b buffer → Front (best_to op given b) (best_after op given buffer)
+best-front None given b buffer f = f
+best-front (Some n) given b buffer f = front-over (take n given) (take n given) buffer (front_same (take n given))
 
 -- so they are the first of a list that begins the buffer, where it has as many
-pub held_same : (x : HeldSync) (l cells : List ℕ) → Front l cells → length (held_entries x l) ≡ count_of x → held_entries x cells ≡ held_entries x l
-held_same held.Nothing l cells f e = refl
-held_same (held.Held x) l cells f e = front-use x.len l cells f (omega (arith, e, length-take x.len l))
+pub held_same : (x : Option LogSync) (l cells : List ℕ) → Front l cells → length (held_entries x l) ≡ count_of x → held_entries x cells ≡ held_entries x l
+held_same None l cells f e = refl
+held_same (Some x) l cells f e = front-use x.len l cells f (omega (arith, e, length-take x.len l))

@@ -1,4 +1,5 @@
 -- Each small move of a step keeps a plan that counts no more than there is.
+use Rattle.std.specs.Prelude.{Option, None, Some}
 use Prim.Native.Nat.{ℕ, ◌+◌, ◌-◌, ◌≤◌}
 use mathlib.Core.Path.{◌≡◌, refl, sym, ap, ◌∙◌}
 use mathlib.Core.Bool.{Bool, true, false, cond}
@@ -7,27 +8,18 @@ use native.Mathlib.Omega.{arith}
 use lib.Dec.{ltb, leb}
 use lib.ListN.{length}
 use Rattle.base.specs.Limits.{largest}
+use Rattle.leader_state.specs.declared.LogSync.{LogSync}
 use Rattle.ballot.specs.declared.Ballot.{Ballot}
 use Rattle.quorum.specs.declared.Configuration.{Configuration}
-use Rattle.leader_state.specs.declared.HeldSync.{HeldSync}
-use Rattle.leader_state.specs.declared.HeldSync.TheVariants as held
-use Rattle.leader_state.specs.declared.Latest.TheVariants as latest
 use Rattle.leader_state.specs.declared.PromiseMetaData.{PromiseMetaData}
 use Rattle.leader_state.specs.declared.PromiseState.TheVariants.{Promised}
 use Rattle.leader_state.specs.State.{with_of, with_depot, with_best, set_promise_state, next_counter, forget_all}
 use Rattle.leader_state.specs.Promises.{beats_best}
 use Rattle.messages.specs.declared.Event.{Event}
-use Rattle.paxos_box.specs.declared.CachedOp.{CachedOp}
-use Rattle.paxos_box.specs.declared.CachedOp.TheVariants as cached
-use Rattle.paxos_box.specs.declared.BufferOp.{BufferOp}
-use Rattle.paxos_box.specs.declared.BufferOp.TheVariants as buffer
 use Rattle.paxos_box.specs.declared.LogOp.{LogOp}
 use Rattle.paxos_box.specs.declared.LogOp.TheVariants as log
 use Rattle.paxos_box.specs.declared.Source.TheVariants as source
 use Rattle.paxos_box.specs.declared.CachedPromise.{CachedPromise}
-use Rattle.paxos_box.specs.declared.CachedMessage.{CachedMessage}
-use Rattle.paxos_box.specs.declared.CachedMessage.TheVariants as message
-use Rattle.paxos_box.specs.declared.AcceptedMeta.TheVariants as meta
 use Rattle.paxos_box.specs.declared.Send.{Send}
 use Rattle.paxos_box.specs.declared.Sends.{Sends}
 use Rattle.paxos_box.specs.declared.Writes.{Writes}
@@ -52,22 +44,22 @@ suffix_within : (len from : ℕ) → suffix_length len from ≤ len - from
 unfolding suffix_length
 suffix_within len from = either (λ (n : ℕ). n ≤ len - from) (ltb len from) 0 (len - from) (λ e. omega arith) (λ e. omega arith)
 
-longer-cached : (op : CachedOp) (z : Sizes) (a b : ℕ) → a ≤ b → cached_size op a z ≤ cached_size op b z
-longer-cached cached.Keep z a b h = omega arith
-longer-cached (cached.FromLog x) z a b h = omega arith
+longer-cached : (op : Option LogSync) (z : Sizes) (a b : ℕ) → a ≤ b → cached_size op a z ≤ cached_size op b z
+longer-cached None z a b h = omega arith
+longer-cached (Some x) z a b h = omega arith
 
-none_left : (op : BufferOp) (z : Sizes) → op ≡ buffer.Keep → BufferWithin op 0 z
+none_left : (op : Option ℕ) (z : Sizes) → op ≡ None → BufferWithin op 0 z
 none_left op z e = rw e (omega arith)
 
-from-cached : (x : HeldSync) (op : CachedOp) (len : ℕ) (z : Sizes) → count_of x ≤ cached_size op len z → count_of x ≤ source_size len op z (cached_source x)
-from-cached held.Nothing op len z h = omega arith
-from-cached (held.Held x) op len z h = h
+from-cached : (x : Option LogSync) (op : Option LogSync) (len : ℕ) (z : Sizes) → count_of x ≤ cached_size op len z → count_of x ≤ source_size len op z (cached_source x)
+from-cached None op len z h = omega arith
+from-cached (Some x) op len z h = h
 
 module _ (c : Configuration) (z : Sizes) where
   -- Of the parts of a box with nothing planned yet
 
   -- another log, where nothing of the cached promise was built from it
-  fine-log : {o : Configuration} {len b : ℕ} {x y : HeldSync} {p : Sends} {w : Writes} (op : LogOp) (n : ℕ) → OpWithin op z → n ≡ end_after op z.log → Unwritten w → Fine c z 0 o len b x y p w → Fine c z 0 o n b x y p (log_op op w)
+  fine-log : {o : Configuration} {len b : ℕ} {x y : Option LogSync} {p : Sends} {w : Writes} (op : LogOp) (n : ℕ) → OpWithin op z → n ≡ end_after op z.log → Unwritten w → Fine c z 0 o len b x y p w → Fine c z 0 o n b x y p (log_op op w)
   fine-log {o} {len} {b} {x} {y} {p} {w} op n h e u f =
       record {
         config = f.config;
@@ -82,11 +74,11 @@ module _ (c : Configuration) (z : Sizes) where
         sends = items-none (Within len w.cached z) (Within n w.cached z) p f.things f.sends;
       }
     where
-      cached-same : (op : CachedOp) → op ≡ cached.Keep → count_of x ≤ cached_size op len z → count_of x ≤ cached_size op n z
+      cached-same : (op : Option LogSync) → op ≡ None → count_of x ≤ cached_size op len z → count_of x ≤ cached_size op n z
       cached-same op e h = rw e (rw e at h)
 
   -- the log is as found where nothing is written yet
-  pub found-log : {k : ℕ} {o : Configuration} {len b : ℕ} {x y : HeldSync} {p : Sends} {w : Writes} → Unwritten w → Fine c z k o len b x y p w → len ≡ z.log
+  pub found-log : {k : ℕ} {o : Configuration} {len b : ℕ} {x y : Option LogSync} {p : Sends} {w : Writes} → Unwritten w → Fine c z k o len b x y p w → len ≡ z.log
   found-log {w = w} u f = omega (arith, f.log, u.buffered, ap (λ (op : LogOp). end_after op z.log) u.log)
 
   -- The moves, of boxes
@@ -96,20 +88,20 @@ module _ (c : Configuration) (z : Sizes) where
   unfolding own_promise
   own-promise k s f = by (beats_best (own_meta s) s.leader_state)
     where
-      by : (t : Bool) → FineBox c z k (with_leader (with_best (cond t (record { meta = own_meta s; sync = held.Nothing }) s.leader_state.max_promise) (with_depot (own_meta s).pid (set_promise_state (Promised (own_meta s))) s.leader_state)) s)
-      by true = fine-best c z held.Nothing (omega arith) f
+      by : (t : Bool) → FineBox c z k (with_leader (with_best (cond t (record { meta = own_meta s; sync = None }) s.leader_state.max_promise) (with_depot (own_meta s).pid (set_promise_state (Promised (own_meta s))) s.leader_state)) s)
+      by true = fine-best c z None (omega arith) f
       by false = f
 
   new-leader : (k : ℕ) (n : Ballot) (s : SequencePaxos) → FineBox c z k s → FineBox c z k (with_leader (with_of n s.config.depots s.leader_state) s)
   unfolding with_of
-  new-leader k n s f = fine-best c z held.Nothing (omega arith) f
+  new-leader k n s f = fine-best c z None (omega arith) f
 
-  held-promise : (m : PromiseMetaData) (x : HeldSync) (s : SequencePaxos) → count_of x ≤ z.given → FineBox c z 0 s → FineBox c z 0 (keep_sync (beats_best m s.leader_state) x (keep_promise m x true s))
+  held-promise : (m : PromiseMetaData) (x : Option LogSync) (s : SequencePaxos) → count_of x ≤ z.given → FineBox c z 0 s → FineBox c z 0 (keep_sync (beats_best m s.leader_state) x (keep_promise m x true s))
   held-promise m x s h f = by (beats_best m s.leader_state) x h
     where
-      by : (t : Bool) (x : HeldSync) → count_of x ≤ z.given → FineBox c z 0 (keep_sync t x (with_leader (with_best (cond t (record { meta = m; sync = x }) s.leader_state.max_promise) (with_depot m.pid (set_promise_state (Promised m)) s.leader_state)) s))
-      by true held.Nothing h = record { config = f.config; things = f.things; sums = f.sums; op = f.op; joins = f.joins; log = f.log; buffer = f.buffer; cached = f.cached; best = omega arith; sends = f.sends }
-      by true (held.Held y) h = record { config = f.config; things = f.things; sums = f.sums; op = f.op; joins = f.joins; log = f.log; buffer = f.buffer; cached = f.cached; best = omega (arith, h); sends = f.sends }
+      by : (t : Bool) (x : Option LogSync) → count_of x ≤ z.given → FineBox c z 0 (keep_sync t x (with_leader (with_best (cond t (record { meta = m; sync = x }) s.leader_state.max_promise) (with_depot m.pid (set_promise_state (Promised m)) s.leader_state)) s))
+      by true None h = record { config = f.config; things = f.things; sums = f.sums; op = f.op; joins = f.joins; log = f.log; buffer = f.buffer; cached = f.cached; best = omega arith; sends = f.sends }
+      by true (Some y) h = record { config = f.config; things = f.things; sums = f.sums; op = f.op; joins = f.joins; log = f.log; buffer = f.buffer; cached = f.cached; best = omega (arith, h); sends = f.sends }
       by false x h = f
 
   -- the log
@@ -122,7 +114,7 @@ module _ (c : Configuration) (z : Sizes) where
   appended n s h u f = fine-log (log.Append n) (s.internal_storage.accepted_idx + n) h (omega (arith, found-log u f)) u f
 
   -- the buffered proposals
-  joined : (s : SequencePaxos) → s.plan.writes.buffered ≡ 0 → s.plan.writes.buffer ≡ buffer.Keep → s.buffered_proposals ≡ z.buffered → FineBox c z 0 s → FineBox c z 0 (append_buffered s)
+  joined : (s : SequencePaxos) → s.plan.writes.buffered ≡ 0 → s.plan.writes.buffer ≡ None → s.buffered_proposals ≡ z.buffered → FineBox c z 0 s → FineBox c z 0 (append_buffered s)
   unfolding append_buffered
   joined s e b n f =
       let len = s.internal_storage.accepted_idx in
@@ -145,25 +137,25 @@ module _ (c : Configuration) (z : Sizes) where
   buffered n s h e f =
       record { config = f.config; things = f.things; sums = f.sums; op = f.op; joins = f.joins; log = f.log; buffer = (rw e, h); cached = f.cached; best = f.best; sends = f.sends }
 
-  emptied : (k : ℕ) (s : SequencePaxos) → s.plan.writes.buffer ≡ buffer.Keep → FineBox c z k s → FineBox c z k (set_buffered 0 s)
+  emptied : (k : ℕ) (s : SequencePaxos) → s.plan.writes.buffer ≡ None → FineBox c z k s → FineBox c z k (set_buffered 0 s)
   emptied k s b f =
       record { config = f.config; things = f.things; sums = f.sums; op = f.op; joins = f.joins; log = f.log; buffer = none_left s.plan.writes.buffer z b; cached = f.cached; best = f.best; sends = f.sends }
 
   -- the cached promise
-  forgotten : (k : ℕ) (s : SequencePaxos) → FineBox c z k s → FineBox c z k (set_cached message.Nothing s)
-  forgotten k s f = fine-cached c z held.Nothing (omega arith) f
+  forgotten : (k : ℕ) (s : SequencePaxos) → FineBox c z k s → FineBox c z k (set_cached None s)
+  forgotten k s f = fine-cached c z None (omega arith) f
 
-  kept-promise : (x : HeldSync) (s : SequencePaxos) → Tells (log_length s) x → FineBox c z 0 s → FineBox c z 0 (cache_promise x s)
+  kept-promise : (x : Option LogSync) (s : SequencePaxos) → Tells (log_length s) x → FineBox c z 0 s → FineBox c z 0 (cache_promise x s)
   unfolding cache_promise
-  kept-promise held.Nothing s t f =
-      record { config = f.config; things = f.things; sums = f.sums; op = f.op; joins = f.joins; log = f.log; buffer = f.buffer; cached = omega arith; best = f.best; sends = items-none (Within (log_length s) s.plan.writes.cached z) (Within (log_length s) cached.Keep z) s.plan.sends f.things f.sends }
-  kept-promise (held.Held y) s t f =
-      record { config = f.config; things = f.things; sums = f.sums; op = f.op; joins = f.joins; log = f.log; buffer = f.buffer; cached = omega (arith, t.0, suffix_within (log_length s) y.sync_idx); best = f.best; sends = items-none (Within (log_length s) s.plan.writes.cached z) (Within (log_length s) (cached.FromLog y) z) s.plan.sends f.things f.sends }
+  kept-promise None s t f =
+      record { config = f.config; things = f.things; sums = f.sums; op = f.op; joins = f.joins; log = f.log; buffer = f.buffer; cached = omega arith; best = f.best; sends = items-none (Within (log_length s) s.plan.writes.cached z) (Within (log_length s) None z) s.plan.sends f.things f.sends }
+  kept-promise (Some y) s t f =
+      record { config = f.config; things = f.things; sums = f.sums; op = f.op; joins = f.joins; log = f.log; buffer = f.buffer; cached = omega (arith, t.0, suffix_within (log_length s) y.sync_idx); best = f.best; sends = items-none (Within (log_length s) s.plan.writes.cached z) (Within (log_length s) (Some y) z) s.plan.sends f.things f.sends }
 
   -- what is sent
-  from-log : (x : HeldSync) (len : ℕ) (op : CachedOp) → Tells len x → count_of x ≤ source_size len op z (log_source x)
-  from-log held.Nothing len op t = omega arith
-  from-log (held.Held y) len op t = omega (arith, t.0, suffix_within len y.sync_idx)
+  from-log : (x : Option LogSync) (len : ℕ) (op : Option LogSync) → Tells len x → count_of x ≤ source_size len op z (log_source x)
+  from-log None len op t = omega arith
+  from-log (Some y) len op t = omega (arith, t.0, suffix_within len y.sync_idx)
 
   sent-empty : (k : ℕ) (m : Send) (s : SequencePaxos) → m.count ≡ 0 → FineBox c z k s → FineBox c z (k + 1) (push_of m s)
   sent-empty k m s e f = fine-push c z k m s (omega arith) f
@@ -195,7 +187,7 @@ module _ (c : Configuration) (z : Sizes) where
   sent-entries : (k from count to : ℕ) (s : SequencePaxos) → from + count ≤ log_length s → FineBox c z k s → FineBox c z (k + 1) (new_accept_decide from count to s)
   unfolding new_accept_decide
   sent-entries k from count to s h f =
-      let t = set_latest_of to (latest.At (next_place s)) s in
+      let t = set_latest_of to (Some (next_place s)) s in
       pushed-entries k from count to (next_seq_num_of to t) (omega (arith, h, same_length to t)) (next-number k to t f)
 
   sent-join : (k from count to at : ℕ) (s : SequencePaxos) → from + count ≤ log_length s → FineBox c z k s → FineBox c z (k + 1) (join_to from count to at s)
@@ -206,24 +198,24 @@ module _ (c : Configuration) (z : Sizes) where
   unfolding push_decide
   sent-decide k to s f = sent-empty k _ s refl f
 
-  told-promise : (to : ℕ) (x : HeldSync) (s : SequencePaxos) → Tells (log_length s) x → FineBox c z 0 s → FineBox c z 1 (send_promise to (promise_of x s) (log_source x) (cache_promise x s))
+  told-promise : (to : ℕ) (x : Option LogSync) (s : SequencePaxos) → Tells (log_length s) x → FineBox c z 0 s → FineBox c z 1 (send_promise to (promise_of x s) (log_source x) (cache_promise x s))
   unfolding cache_promise
   told-promise to x s t f = fine-push c z 0 _ (cache_promise x s) (from-log x (log_length s) (kept_sync x) t) (kept-promise x s t f)
 
-  told-again : (to : ℕ) (p : CachedPromise) (s : SequencePaxos) → s.cached_promise_message.message ≡ message.Held p → FineBox c z 0 s → FineBox c z 1 (send_promise to p (cached_source p.sync) s)
+  told-again : (to : ℕ) (p : CachedPromise) (s : SequencePaxos) → s.cached_promise_message ≡ Some p → FineBox c z 0 s → FineBox c z 1 (send_promise to p (cached_source p.sync) s)
   told-again to p s e f =
-      fine-push c z 0 _ s (from-cached p.sync s.plan.writes.cached (log_length s) z (omega (arith, f.cached, ap (λ (m : CachedMessage). count_of (sync_in m)) e))) f
+      fine-push c z 0 _ s (from-cached p.sync s.plan.writes.cached (log_length s) z (omega (arith, f.cached, ap (λ (m : Option CachedPromise). count_of (sync_in m)) e))) f
 
   sent-accepted : (k : ℕ) (n : Ballot) (idx to : ℕ) (s : SequencePaxos) → FineBox c z k s → FineBox c z (k + 1) (send_accepted n idx to s)
   unfolding send_accepted
-  sent-accepted k n idx to s f = sent-empty k _ (set_meta (meta.At (record { n = n; at = next_place s })) s) refl f
+  sent-accepted k n idx to s f = sent-empty k _ (set_meta (Some (record { n = n; at = next_place s })) s) refl f
 
-  forwarded-buffered : (k : ℕ) (s : SequencePaxos) → s.plan.writes.buffer ≡ buffer.Keep → s.buffered_proposals ≡ z.buffered → FineBox c z k s → FineBox c z (k + 1) (push_forward source.Buffered s.buffered_proposals (set_buffered 0 s))
+  forwarded-buffered : (k : ℕ) (s : SequencePaxos) → s.plan.writes.buffer ≡ None → s.buffered_proposals ≡ z.buffered → FineBox c z k s → FineBox c z (k + 1) (push_forward source.Buffered s.buffered_proposals (set_buffered 0 s))
   forwarded-buffered k s b e f = fine-push c z k _ (set_buffered 0 s) (omega (arith, e)) (emptied k s b f)
 
-holds-given : (e : Event) (entries : List ℕ) (x : HeldSync) → Holds e entries x → count_of x ≤ length entries
-holds-given e entries held.Nothing h = omega arith
-holds-given e entries (held.Held x) h = omega (arith, h.0.count)
+holds-given : (e : Event) (entries : List ℕ) (x : Option LogSync) → Holds e entries x → count_of x ≤ length entries
+holds-given e entries None h = omega arith
+holds-given e entries (Some x) h = omega (arith, h.0.count)
 
 -- all of them
 pub fine-closed : (c : Configuration) (e : Event) (entries : List ℕ) (found : SequencePaxos) (z : Sizes) → z.given ≡ length entries → z.buffered ≡ found.buffered_proposals → z.best ≡ count_of found.leader_state.max_promise.sync → Closed c e entries found (FineBox c z)
@@ -243,7 +235,7 @@ fine-closed c e entries found z g b h =
       promises-itself = λ s i. own-promise c z 0 s i;
       keeps = λ m s d k i. i;
       keeps-held = λ m x s d k o u i. held-promise c z m x s (omega (arith, g, holds-given e entries x o)) i;
-      keeps-put = λ m x s d k i. fine-best c z held.Nothing (omega arith) i;
+      keeps-put = λ m x s d k i. fine-best c z None (omega arith) i;
       changes-place = λ k to f s d m i. i;
       puts_none = λ n d s u r l i. synced c z n d (log_length s) log.Keep s tt (found-log c z u i) u i;
       puts-given = λ n d br x s u r w p l i. synced c z n d (sync_end x) (log.PutGiven x) s (omega (arith, p.starts, found-log c z u i), omega (arith, g, w.count)) refl u i;
@@ -272,6 +264,6 @@ pub drained-fine : (c : Configuration) (z : Sizes) (s : SequencePaxos) → FineB
 unfolding drained forget_all
 drained-fine c z s f = f
 
-pub restarted-fine : (c : Configuration) (z : Sizes) (s : SequencePaxos) → s.plan.writes.buffer ≡ buffer.Keep → FineBox c z 0 s → FineBox c z 0 (restarted s)
+pub restarted-fine : (c : Configuration) (z : Sizes) (s : SequencePaxos) → s.plan.writes.buffer ≡ None → FineBox c z 0 s → FineBox c z 0 (restarted s)
 unfolding restarted with_of
-restarted-fine c z s b f = fine-cached c z held.Nothing (omega arith) (fine-best c z held.Nothing (omega arith) (emptied c z 0 s b f))
+restarted-fine c z s b f = fine-cached c z None (omega arith) (fine-best c z None (omega arith) (emptied c z 0 s b f))

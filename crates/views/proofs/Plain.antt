@@ -1,22 +1,16 @@
 -- Counts that are no more than there is are the lengths of the lists that a plan makes.
+use Rattle.std.specs.Prelude.{Option, None, Some}
 use Prim.Native.Nat.{ℕ, ◌+◌, ◌≤◌}
 use mathlib.Core.Path.{◌≡◌, refl, ap, ◌∙◌}
 use mathlib.Core.List.{List, [], ◌∷◌, ◌++◌}
 use native.Mathlib.Omega.{arith}
 use lib.ListN.{length, take, drop, length-append, length-take, length-drop}
+use Rattle.leader_state.specs.declared.LogSync.{LogSync}
 use Rattle.quorum.specs.declared.Configuration.{Configuration}
-use Rattle.leader_state.specs.declared.HeldSync.{HeldSync}
-use Rattle.leader_state.specs.declared.HeldSync.TheVariants as held
 use Rattle.messages.specs.declared.Event.{Event}
 use Rattle.messages.specs.declared.Event.TheVariants as event
 use Rattle.paxos_box.specs.declared.LogOp.{LogOp}
 use Rattle.paxos_box.specs.declared.LogOp.TheVariants as log
-use Rattle.paxos_box.specs.declared.CachedOp.{CachedOp}
-use Rattle.paxos_box.specs.declared.CachedOp.TheVariants as cached
-use Rattle.paxos_box.specs.declared.BestOp.{BestOp}
-use Rattle.paxos_box.specs.declared.BestOp.TheVariants as best
-use Rattle.paxos_box.specs.declared.BufferOp.{BufferOp}
-use Rattle.paxos_box.specs.declared.BufferOp.TheVariants as buffer
 use Rattle.paxos_box.specs.declared.Source.{Source}
 use Rattle.paxos_box.specs.declared.Source.TheVariants as source
 use Rattle.paxos_box.specs.declared.Send.{Send}
@@ -51,21 +45,21 @@ module _ (entries : List ℕ) (v : View) where
   length-log (log.PutGiven x) h = length-put x.sync_idx x.len v.log entries h.0 h.1
   length-log (log.PutHeld x) h = length-put x.sync_idx x.len v.log v.best h.0 h.1
 
-  length-buffered : (op : BufferOp) (n : ℕ) → BufferWithin op n (sizes_of entries v) → length (buffer_to op n entries v.buffered) ≡ n
-  length-buffered buffer.Keep n h = omega (arith, h, length-take n v.buffered)
-  length-buffered (buffer.Add k) n h = omega (arith, h.0, h.1, length-append v.buffered (take k entries), length-take k entries)
+  length-buffered : (op : Option ℕ) (n : ℕ) → BufferWithin op n (sizes_of entries v) → length (buffer_to op n entries v.buffered) ≡ n
+  length-buffered None n h = omega (arith, h, length-take n v.buffered)
+  length-buffered (Some k) n h = omega (arith, h.0, h.1, length-append v.buffered (take k entries), length-take k entries)
 
-  length-cached : (op : CachedOp) (l : List ℕ) → length (cached_to op l v.cached) ≡ cached_size op (length l) (sizes_of entries v)
-  length-cached cached.Keep l = refl
-  length-cached (cached.FromLog x) l = omega (arith, length-take x.len (drop x.sync_idx l), length-drop x.sync_idx l)
+  length-cached : (op : Option LogSync) (l : List ℕ) → length (cached_to op l v.cached) ≡ cached_size op (length l) (sizes_of entries v)
+  length-cached None l = refl
+  length-cached (Some x) l = omega (arith, length-take x.len (drop x.sync_idx l), length-drop x.sync_idx l)
 
-  length-best : (op : BestOp) → length (best_to op entries v.best) ≡ best_size op (sizes_of entries v)
-  length-best best.Keep = refl
-  length-best (best.Given n) = length-take n entries
+  length-best : (op : Option ℕ) → length (best_to op entries v.best) ≡ best_size op (sizes_of entries v)
+  length-best None = refl
+  length-best (Some n) = length-take n entries
 
-length-held : (x : HeldSync) (l : List ℕ) → count_of x ≤ length l → length (held_entries x l) ≡ count_of x
-length-held held.Nothing l h = refl
-length-held (held.Held x) l h = omega (arith, h, length-take x.len l)
+length-held : (x : Option LogSync) (l : List ℕ) → count_of x ≤ length l → length (held_entries x l) ≡ count_of x
+length-held None l h = refl
+length-held (Some x) l h = omega (arith, h, length-take x.len l)
 
 covered : (f : Sources) (g : Source → ℕ) → ((x : Source) → g x ≤ length (source_of x f)) → (ms : List Send) → Each (λ m. m.count ≤ g m.source) ms → Covered f ms
 covered f g b [] none = view.none
@@ -96,7 +90,7 @@ module _ (entries : List ℕ) (v : View) (s : SequencePaxos) (c : Configuration)
         kept = f.joins;
         log = new-length;
         buffer = length-buffered entries v s.plan.writes.buffer s.buffered_proposals f.buffer;
-        cached = length-held (sync_in s.cached_promise_message.message) (cached_list entries s v) (omega (arith, f.cached, cached-length));
+        cached = length-held (sync_in s.cached_promise_message) (cached_list entries s v) (omega (arith, f.cached, cached-length));
         best = length-held s.leader_state.max_promise.sync (best_to s.plan.writes.best entries v.best) (omega (arith, f.best, length-best entries v s.plan.writes.best));
         sends = covered (sources_of entries s v) (source_size s.internal_storage.accepted_idx s.plan.writes.cached (sizes_of entries v)) enough (items_of s.plan.sends) f.sends.each;
         messages = f.sums.messages;

@@ -99,10 +99,10 @@ module _ (entries : List ℕ) (s : SequencePaxos) (w : World) (c : Counted (view
       cached-front s.plan.writes.cached (new_log entries s (view_of w)) (log_of entries s w) (held_entries (cached_sync w.node) w.lists.cached) w.lists.cached log-begins
       (held-front (cached_sync w.node) w.lists.cached)
 
-  pub cached-viewed : held_entries (sync_in s.cached_promise_message.message) (cached_of entries s w) ≡ new_cached entries s (view_of w)
+  pub cached-viewed : held_entries (sync_in s.cached_promise_message) (cached_of entries s w) ≡ new_cached entries s (view_of w)
   unfolding new_cached
   cached-viewed =
-      held_same (sync_in s.cached_promise_message.message) (cached_list entries s (view_of w)) (cached_of entries s w) cached-begins p.cached
+      held_same (sync_in s.cached_promise_message) (cached_list entries s (view_of w)) (cached_of entries s w) cached-begins p.cached
 
   pub best-viewed : held_entries s.leader_state.max_promise.sync (best_of entries s w) ≡ new_best entries s (view_of w)
   unfolding new_best best_of view_of

@@ -1,12 +1,10 @@
 -- A depot seen as lists: no cell past a length, no head, no store. What a decided box makes of them, and the deciding box made of them.
-use Rattle.std.specs.Prelude.{ℕ, ◌+◌, ◌≤◌, ◌≡◌, Bool, false, ◌&&◌, List, [], ◌∷◌, ◌++◌, ltb, length, take, drop, get_or}
+use Rattle.std.specs.Prelude.{ℕ, ◌+◌, ◌≤◌, ◌≡◌, Bool, false, ◌&&◌, List, [], ◌∷◌, ◌++◌, ltb, length, take, drop, get_or, Option, None, Some}
+use Rattle.paxos_box.specs.declared.AcceptedAt.{AcceptedAt}
+use Rattle.leader_state.specs.declared.LogSync.{LogSync}
 use Rattle.quorum.specs.declared.Configuration.{Configuration}
 use Rattle.leader_state.specs.State.{depot_of}
 use Rattle.leader_state.specs.Places.{marks}
-use Rattle.leader_state.specs.declared.Latest.{Latest}
-use Rattle.leader_state.specs.declared.Latest.TheVariants as latest
-use Rattle.leader_state.specs.declared.HeldSync.{HeldSync}
-use Rattle.leader_state.specs.declared.HeldSync.TheVariants as held
 use Rattle.messages.specs.declared.Event.{Event}
 use Rattle.messages.specs.declared.Event.TheVariants as event
 use Rattle.messages.specs.declared.PaxosMsg.{PaxosMsg}
@@ -15,14 +13,6 @@ use Rattle.messages.specs.Messages.{is_accept_decide, is_accepted}
 use Rattle.paxos_box.specs.declared.SequencePaxos.{SequencePaxos}
 use Rattle.paxos_box.specs.declared.LogOp.{LogOp}
 use Rattle.paxos_box.specs.declared.LogOp.TheVariants as log
-use Rattle.paxos_box.specs.declared.CachedOp.{CachedOp}
-use Rattle.paxos_box.specs.declared.CachedOp.TheVariants as cached
-use Rattle.paxos_box.specs.declared.BestOp.{BestOp}
-use Rattle.paxos_box.specs.declared.BestOp.TheVariants as best
-use Rattle.paxos_box.specs.declared.BufferOp.{BufferOp}
-use Rattle.paxos_box.specs.declared.BufferOp.TheVariants as buffer
-use Rattle.paxos_box.specs.declared.AcceptedMeta.{AcceptedMeta}
-use Rattle.paxos_box.specs.declared.AcceptedMeta.TheVariants as meta
 use Rattle.paxos_box.specs.declared.Sight.{Sight}
 use Rattle.paxos_box.specs.declared.Send.{Send}
 use Rattle.follower.specs.Follower.{count_of}
@@ -61,9 +51,9 @@ numbers_of r =
     }
 
 -- a sync's entries are the first of a list
-abbrev pub held_entries : HeldSync → List ℕ → List ℕ
-held_entries held.Nothing l = []
-held_entries (held.Held x) l = take x.len l
+abbrev pub held_entries : Option LogSync → List ℕ → List ℕ
+held_entries None l = []
+held_entries (Some x) l = take x.len l
 
 unfoldable pub view_of : World → View
 view_of w =
@@ -88,18 +78,18 @@ log_to (log.PutGiven x) given held l = take x.sync_idx l ++ take x.len given
 log_to (log.PutHeld x) given held l = take x.sync_idx l ++ take x.len held
 
 -- the buffered proposals, of which so many stay where none join them
-abbrev pub buffer_to : BufferOp → ℕ → List ℕ → List ℕ → List ℕ
-buffer_to buffer.Keep n given l = take n l
-buffer_to (buffer.Add k) n given l = l ++ take k given
+abbrev pub buffer_to : Option ℕ → ℕ → List ℕ → List ℕ → List ℕ
+buffer_to None n given l = take n l
+buffer_to (Some k) n given l = l ++ take k given
 
 -- where the cached sync's entries are, and the held one's
-abbrev pub cached_to : CachedOp → List ℕ → List ℕ → List ℕ
-cached_to cached.Keep l c = c
-cached_to (cached.FromLog x) l c = take x.len (drop x.sync_idx l)
+abbrev pub cached_to : Option LogSync → List ℕ → List ℕ → List ℕ
+cached_to None l c = c
+cached_to (Some x) l c = take x.len (drop x.sync_idx l)
 
-abbrev pub best_to : BestOp → List ℕ → List ℕ → List ℕ
-best_to best.Keep given b = b
-best_to (best.Given n) given b = take n given
+abbrev pub best_to : Option ℕ → List ℕ → List ℕ → List ℕ
+best_to None given b = b
+best_to (Some n) given b = take n given
 
 -- the lists that a decided box makes of a view: the kept proposals stand at the end of the log
 unfoldable pub new_log : List ℕ → SequencePaxos → View → List ℕ
@@ -113,7 +103,7 @@ unfoldable pub cached_list : List ℕ → SequencePaxos → View → List ℕ
 cached_list entries s v = cached_to s.plan.writes.cached (new_log entries s v) v.cached
 
 unfoldable pub new_cached : List ℕ → SequencePaxos → View → List ℕ
-new_cached entries s v = held_entries (sync_in s.cached_promise_message.message) (cached_list entries s v)
+new_cached entries s v = held_entries (sync_in s.cached_promise_message) (cached_list entries s v)
 
 unfoldable pub new_best : List ℕ → SequencePaxos → View → List ℕ
 new_best entries s v = held_entries s.leader_state.max_promise.sync (best_to s.plan.writes.best entries v.best)
@@ -173,7 +163,7 @@ pub record Plain (entries : List ℕ) (s : SequencePaxos) (v : View) : Type 0 wh
   pub kept : s.plan.writes.buffered ≤ length v.buffered
   pub log : length (new_log entries s v) ≡ s.internal_storage.accepted_idx
   pub buffer : length (new_buffered entries s v) ≡ s.buffered_proposals
-  pub cached : length (new_cached entries s v) ≡ count_of (sync_in s.cached_promise_message.message)
+  pub cached : length (new_cached entries s v) ≡ count_of (sync_in s.cached_promise_message)
   pub best : length (new_best entries s v) ≡ count_of s.leader_state.max_promise.sync
   pub sends : Covered (sources_of entries s v) (items_of s.plan.sends)
   pub messages : s.plan.sends.messages ≡ new_in (items_of s.plan.sends)
@@ -188,23 +178,23 @@ abbrev pub msg_at : List Msg → ℕ → PaxosMsg
 msg_at q i = (get_or q i no_msg).msg
 
 -- what stands where an AcceptDecide, an Accepted is remembered
-abbrev pub accdec_there : List Msg → Latest → Bool
-accdec_there q latest.Nothing = false
-accdec_there q (latest.At at) = ltb at (length q) && is_accept_decide (msg_at q at)
+abbrev pub accdec_there : List Msg → Option ℕ → Bool
+accdec_there q None = false
+accdec_there q (Some at) = ltb at (length q) && is_accept_decide (msg_at q at)
 
-abbrev pub accepted_there : List Msg → AcceptedMeta → Bool
-accepted_there q meta.Nothing = false
-accepted_there q (meta.At a) = ltb a.at (length q) && is_accepted (msg_at q a.at)
+abbrev pub accepted_there : List Msg → Option AcceptedAt → Bool
+accepted_there q None = false
+accepted_there q (Some a) = ltb a.at (length q) && is_accepted (msg_at q a.at)
 
-abbrev pub held_first : HeldSync → List ℕ → List ℕ → ℕ
-held_first held.Nothing log best = length log
-held_first (held.Held x) log best = first_change log (length log) x.sync_idx best
+abbrev pub held_first : Option LogSync → List ℕ → List ℕ → ℕ
+held_first None log best = length log
+held_first (Some x) log best = first_change log (length log) x.sync_idx best
 
 unfoldable pub sight_view : Configuration → Event → List ℕ → View → Sight
 sight_view c e entries v =
     record {
       accdec = marks c.depots (λ pid. accdec_there v.queue (depot_of pid v.node.leader_state).latest);
-      accepted = accepted_there v.queue v.node.latest_accepted_meta.meta;
+      accepted = accepted_there v.queue v.node.latest_accepted_meta;
       held_change = held_first (best_sync v.node) v.log v.best;
       brought_change = brought_change (brought e) v.log (length v.log) entries;
     }
