@@ -1,6 +1,5 @@
 -- The laws of `base`: rulesets, refusals in order, lists, counts and tests.
 pub mod Sets
-pub mod Refusal
 pub mod Lists
 pub mod Meet
 pub mod Tests

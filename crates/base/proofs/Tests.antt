@@ -1,7 +1,7 @@
 -- Tests: what one says that holds or fails, and tests on numbers moved from one shape to another.
 use Prim.Native.Nat.{ℕ, ◌+◌, ◌-◌, ◌≤◌, ◌<◌}
 use mathlib.Core.Path.{◌≡◌, refl, sym}
-use mathlib.Core.Bool.{Bool, true, false, ◌&&◌}
+use mathlib.Core.Bool.{Bool, true, false, cond, ◌&&◌}
 use native.Mathlib.Omega.{arith}
 use lib.Dec.{ltb}
 use borrow.Author.Tests.{ltb-true, ltb-false, lt-ltb, le-ltb}
@@ -31,3 +31,8 @@ same_test a b c d f g = go (ltb a b) refl
 -- a difference tested is a sum tested, which cannot wrap
 pub below_rest : (d r w : ℕ) → r ≤ d → ltb (d - r) w ≡ ltb d (r + w)
 below_rest d r w h = same_test (d - r) w d (r + w) (λ l. omega arith) (λ l. omega arith)
+
+-- the first test of a chain of refusals that gives 0 did not hold, and the rest gives 0 too
+pub passed : (t : Bool) (n rest : ℕ) → 0 < n → cond t n rest ≡ 0 → (t ≡ false) × (rest ≡ 0)
+passed true n rest h e = absurd (omega arith)
+passed false n rest h e = (refl, e)

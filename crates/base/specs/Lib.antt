@@ -1,4 +1,5 @@
--- The definitions of `base`: limits, lists and counts over them.
+-- The definitions of `base`: limits, refusals, lists and counts over them.
 pub mod Limits
+pub mod Refusal
 pub mod Lists
 pub mod Count

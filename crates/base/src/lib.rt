@@ -1,8 +1,12 @@
-// What every crate shares: the limits of document 01, rulesets, and laws on lists, counts and ordered refusals.
+// What every crate shares: the limits of document 01, the refusals, rulesets, and laws on lists, counts and ordered refusals.
 #![tactic(auto)]
 
 ghost use Rattle.std.specs.Prelude.{◌≡◌};
 ghost use Rattle.base.specs.Limits.{limits_of};
+ghost use Rattle.base.specs.Refusal.{number_of, Numbered};
+
+use std::error::Error;
+use std::fmt;
 
 pub const MIN_DEPOTS: u64 = 2;
 
@@ -59,3 +63,73 @@ pub fn limits_of_document() -> Limits
         largest: LARGEST,
     }
 }
+
+// Why a box or a book says no (R2), with the number that C is given; 0 is no refusal.
+#[derive(Clone, Copy, Debug, PartialEq, Eq)]
+pub enum Refusal {
+    WrongCall = 1,
+    Broken = 2,
+    Stranger = 3,
+    Unfit = 4,
+    LogFull = 5,
+    QueueFull = 6,
+    AtTop = 7,
+    BufferFull = 8,
+}
+
+impl From<Refusal> for u32 {
+    ghost from_gives = { λ refusal number. number ≡ number_of refusal };
+
+    fn from(refusal: Refusal) -> u32 {
+        refusal as u32
+    }
+}
+
+// A number that is no refusal's.
+#[derive(Clone, Copy, Debug, PartialEq, Eq)]
+pub struct NoRefusal(pub u32);
+
+impl TryFrom<u32> for Refusal {
+    type Error = NoRefusal;
+
+    ghost try_from_gives = { Numbered };
+
+    fn try_from(number: u32) -> Result<Self, NoRefusal> {
+        Ok(match number {
+            1 => Refusal::WrongCall,
+            2 => Refusal::Broken,
+            3 => Refusal::Stranger,
+            4 => Refusal::Unfit,
+            5 => Refusal::LogFull,
+            6 => Refusal::QueueFull,
+            7 => Refusal::AtTop,
+            8 => Refusal::BufferFull,
+            _ => return Err(NoRefusal(number)),
+        })
+    }
+}
+
+impl fmt::Display for Refusal {
+    fn fmt<W: fmt::Write>(&self, f: &mut fmt::Formatter<W>) -> fmt::Result {
+        f.write_str(match self {
+            Refusal::WrongCall => "the call is wrong",
+            Refusal::Broken => "the record is broken",
+            Refusal::Stranger => "the depot is none",
+            Refusal::Unfit => "the message or proposal is unfit",
+            Refusal::LogFull => "the log would be too long",
+            Refusal::QueueFull => "the queue would be too full",
+            Refusal::AtTop => "a session or counter is at its end",
+            Refusal::BufferFull => "too many proposals would be buffered",
+        })
+    }
+}
+
+impl fmt::Display for NoRefusal {
+    fn fmt<W: fmt::Write>(&self, f: &mut fmt::Formatter<W>) -> fmt::Result {
+        write!(f, "no refusal has number {}", self.0)
+    }
+}
+
+impl Error for Refusal {}
+
+impl Error for NoRefusal {}

@@ -10,7 +10,7 @@ use lib.ListN.{length, get_or}
 use lib.Seq.{take_all}
 use borrow.Author.Tests.{lt-ltb}
 use Rattle.base.specs.Limits.{max_depots}
-use Rattle.base.proofs.Refusal.{passed}
+use Rattle.base.proofs.Tests.{passed}
 use Rattle.base.proofs.Lists.{get_d_tabulate}
 use Rattle.ballot.specs.declared.Ballot.{Ballot}
 use Rattle.ballot.proofs.Laws.{same_refl as same_self}
