@@ -4,7 +4,7 @@
 
 ghost use Rattle.std.specs.Prelude.{◌≡◌, ◌+◌, ◌*◌, ◌≤◌, ◌<◌};
 ghost use Rattle.paxos_box.specs.Room.{Room};
-ghost use Rattle.paxos_box.specs.Box.{is_new, planned, writing, push_of, next_place, unfit, at_top, with_state, with_leader, with_storage, with_writes, set_promised, set_decided, set_length, set_seq, set_cached, set_meta, set_buffered, log_op, cached_op, best_op, buffer_op, kept_buffered, is_recover, is_accept_phase, is_leader, standing_of, leads_in, follows_in};
+ghost use Rattle.paxos_box.specs.Box.{is_new, planned, push_of, next_place, unfit, at_top, with_state, with_leader, with_storage, with_writes, set_promised, set_decided, set_length, set_seq, set_cached, set_meta, set_buffered, log_op, cached_op, best_op, buffer_op, kept_buffered, is_recover, is_accept_phase, is_leader, standing_of};
 
 use ballot::Ballot;
 use leader_state::{LeaderState, LogSync};
@@ -12,13 +12,13 @@ use messages::PaxosMsg;
 use quorum::Configuration;
 use sequence::SequenceNumber;
 
-#[derive(Clone, Copy)]
+#[derive(Clone, Copy, Debug, PartialEq, Eq)]
 pub enum Role {
     Follower,
     Leader,
 }
 
-#[derive(Clone, Copy)]
+#[derive(Clone, Copy, Debug, PartialEq, Eq)]
 pub enum Phase {
     Prepare,
     Accept,
@@ -26,7 +26,7 @@ pub enum Phase {
     None,
 }
 
-#[derive(Clone, Copy)]
+#[derive(Clone, Copy, Debug, PartialEq, Eq)]
 pub struct State {
     pub role: Role,
     pub phase: Phase,
@@ -42,7 +42,7 @@ pub struct InternalStorage {
 }
 
 // The queue: how many messages wait, and how many entries they carry.
-#[derive(Clone, Copy)]
+#[derive(Clone, Copy, Debug, PartialEq, Eq)]
 pub struct Outgoing {
     pub len: usize,
     pub entries: usize,
@@ -67,7 +67,7 @@ pub struct AcceptedAt {
 
 // Where a planned message's entries come from: the log as the step leaves it, from a place on; the entries given with the event;
 // the buffered proposals as found; the cached promise's buffer as the step leaves it.
-#[derive(Clone, Copy)]
+#[derive(Clone, Copy, Debug, PartialEq, Eq)]
 pub enum Source {
     Nothing,
     Log(usize),
@@ -77,14 +77,14 @@ pub enum Source {
 }
 
 // The AcceptDecide that stands at a position of the queue gets this decided index, and the entries join it.
-#[derive(Clone, Copy)]
+#[derive(Clone, Copy, Debug, PartialEq, Eq)]
 pub struct Join {
     pub at: usize,
     pub decided_idx: usize,
 }
 
 // The Accepted that stands at a position of the queue gets this index.
-#[derive(Clone, Copy)]
+#[derive(Clone, Copy, Debug, PartialEq, Eq)]
 pub struct Raise {
     pub at: usize,
     pub accepted_idx: usize,
@@ -107,6 +107,7 @@ pub struct Send {
 }
 
 // What the step does to the queue, in order; how many new messages, and how many entries they and the joins bring.
+// Kept: a buffer with its length, since a step allocates nothing, and `sending`, `items_of` and `Summed` speak of places past the length too.
 #[derive(Clone, Copy)]
 pub struct Sends {
     pub items: [Send; 8],
@@ -170,7 +171,7 @@ pub struct SequencePaxos {
 }
 
 // The pairs of role and phase that a rule names.
-#[derive(Clone, Copy)]
+#[derive(Clone, Copy, Debug, PartialEq, Eq)]
 pub enum Standing {
     LeaderPrepare,
     LeaderAccept,
@@ -180,15 +181,12 @@ pub enum Standing {
 }
 
 impl Sent {
+    // An edit is no new message.
     fn is_new(self) -> usize
         ensures value { result ≡ is_new self }
         ensures upper_bound { result ≤ 1 }
     {
-        match self {
-            Sent::New(_) => 1,
-            Sent::Join(_) => 0,
-            Sent::Raise(_) => 0,
-        }
+        usize::from(matches!(self, Sent::New(_)))
     }
 }
 
@@ -196,10 +194,7 @@ impl Role {
     pub fn is_leader(self) -> bool
         ensures { result ≡ is_leader self }
     {
-        match self {
-            Role::Leader => true,
-            Role::Follower => false,
-        }
+        matches!(self, Role::Leader)
     }
 }
 
@@ -207,45 +202,13 @@ impl Phase {
     pub fn is_recover(self) -> bool
         ensures { result ≡ is_recover self }
     {
-        match self {
-            Phase::Prepare => false,
-            Phase::Accept => false,
-            Phase::Recover => true,
-            Phase::None => false,
-        }
+        matches!(self, Phase::Recover)
     }
 
     pub fn is_accept(self) -> bool
         ensures { result ≡ is_accept_phase self }
     {
-        match self {
-            Phase::Prepare => false,
-            Phase::Accept => true,
-            Phase::Recover => false,
-            Phase::None => false,
-        }
-    }
-}
-
-fn leads_in(phase: Phase) -> Standing
-    ensures { result ≡ leads_in phase }
-{
-    match phase {
-        Phase::Prepare => Standing::LeaderPrepare,
-        Phase::Accept => Standing::LeaderAccept,
-        Phase::Recover => Standing::Other,
-        Phase::None => Standing::Other,
-    }
-}
-
-fn follows_in(phase: Phase) -> Standing
-    ensures { result ≡ follows_in phase }
-{
-    match phase {
-        Phase::Prepare => Standing::FollowerPrepare,
-        Phase::Accept => Standing::FollowerAccept,
-        Phase::Recover => Standing::Other,
-        Phase::None => Standing::Other,
+        matches!(self, Phase::Accept)
     }
 }
 
@@ -253,41 +216,31 @@ impl State {
     pub fn standing(self) -> Standing
         ensures { result ≡ standing_of self.role self.phase }
     {
-        let role = self.role;
-        let phase = self.phase;
-        match role {
-            Role::Leader => leads_in(phase),
-            Role::Follower => follows_in(phase),
+        match (self.role, self.phase) {
+            (Role::Leader, Phase::Prepare) => Standing::LeaderPrepare,
+            (Role::Leader, Phase::Accept) => Standing::LeaderAccept,
+            (Role::Follower, Phase::Prepare) => Standing::FollowerPrepare,
+            (Role::Follower, Phase::Accept) => Standing::FollowerAccept,
+            _ => Standing::Other,
         }
     }
 }
 
 impl Plan {
     #[tactic(auto, unfolding(crate::specs::Box::planned))]
-    fn with_send(mut self, m: Send) -> Plan
+    fn with_send(mut self, m: Send) -> Self
         requires messages_le_count { self.sends.messages ≤ self.sends.count }
         requires entries_bound { self.sends.entries ≤ 1024 * self.sends.count }
         requires count_bound { m.count ≤ 1024 }
         ensures { result ≡ planned m self }
     {
-        let mut s = self.sends;
-        let at = s.count;
-        if 8 <= at {
-            return self;
+        let at = self.sends.count;
+        if at < 8 {
+            self.sends.items[at] = m;
+            self.sends.count += 1;
+            self.sends.messages += m.what.is_new();
+            self.sends.entries += m.count;
         }
-        let what = m.what;
-        s.items[at] = m;
-        s.count = at + 1;
-        s.messages = s.messages + what.is_new();
-        s.entries = s.entries + m.count;
-        self.sends = s;
-        self
-    }
-
-    fn with_writes(mut self, w: Writes) -> Plan
-        ensures { result ≡ writing w self }
-    {
-        self.writes = w;
         self
     }
 }
@@ -295,15 +248,13 @@ impl Plan {
 impl SequencePaxos {
     // A plan has room for eight things and a step plans six at most, so none is ever left out.
     #[tactic(auto, unfolding(crate::specs::Box::push_of))]
-    pub fn push_send(mut self, m: Send) -> SequencePaxos
+    pub fn push_send(mut self, m: Send) -> Self
         requires room { Room self }
         requires count_bound { m.count ≤ 1024 }
         ensures value { result ≡ push_of m self }
         ensures room_2 { Room result }
     {
-        let p = self.plan;
-        let next = p.with_send(m);
-        self.plan = next;
+        self.plan = self.plan.with_send(m);
         self
     }
 
@@ -312,14 +263,11 @@ impl SequencePaxos {
         requires { Room self }
         ensures { result ≡ next_place self }
     {
-        let q = self.outgoing;
-        let p = self.plan;
-        let s = p.sends;
-        q.len + s.messages
+        self.outgoing.len + self.plan.sends.messages
     }
 
     // The step is refused with 4.
-    pub fn refuse_unfit(mut self) -> SequencePaxos
+    pub fn refuse_unfit(mut self) -> Self
         ensures { result ≡ unfit self }
     {
         self.plan.unfit = true;
@@ -327,163 +275,118 @@ impl SequencePaxos {
     }
 
     // The step is refused with 7.
-    pub fn refuse_top(mut self) -> SequencePaxos
+    pub fn refuse_top(mut self) -> Self
         ensures { result ≡ at_top self }
     {
         self.plan.top = true;
         self
     }
 
-    pub fn set_state(mut self, role: Role, phase: Phase) -> SequencePaxos
+    pub fn set_state(mut self, role: Role, phase: Phase) -> Self
         ensures { result ≡ with_state (record { role = role; phase = phase }) self }
     {
-        let s = State { role, phase };
-        self.state = s;
+        self.state = State { role, phase };
         self
     }
 
-    pub fn set_leader_state(mut self, l: LeaderState) -> SequencePaxos
+    pub fn set_leader_state(mut self, l: LeaderState) -> Self
         ensures { result ≡ with_leader l self }
     {
         self.leader_state = l;
         self
     }
 
-    pub fn set_storage(mut self, t: InternalStorage) -> SequencePaxos
+    pub fn set_storage(mut self, t: InternalStorage) -> Self
         ensures { result ≡ with_storage t self }
     {
         self.internal_storage = t;
         self
     }
 
-    pub fn set_promise(mut self, n: Ballot) -> SequencePaxos
+    pub fn set_promise(mut self, n: Ballot) -> Self
         ensures { result ≡ set_promised n self }
     {
-        let mut t = self.internal_storage;
-        t.promise = n;
-        self.internal_storage = t;
+        self.internal_storage.promise = n;
         self
     }
 
-    pub fn set_decided_idx(mut self, idx: usize) -> SequencePaxos
+    pub fn set_decided_idx(mut self, idx: usize) -> Self
         ensures { result ≡ set_decided idx self }
     {
         self.internal_storage.decided_idx = idx;
         self
     }
 
-    pub fn set_length(mut self, len: usize) -> SequencePaxos
+    pub fn set_length(mut self, len: usize) -> Self
         ensures { result ≡ set_length len self }
     {
         self.internal_storage.accepted_idx = len;
         self
     }
 
-    pub fn set_current_seq_num(mut self, q: SequenceNumber) -> SequencePaxos
+    pub fn set_current_seq_num(mut self, q: SequenceNumber) -> Self
         ensures { result ≡ set_seq q self }
     {
         self.current_seq_num = q;
         self
     }
 
-    pub fn set_cached(mut self, message: Option<CachedPromise>) -> SequencePaxos
+    pub fn set_cached(mut self, message: Option<CachedPromise>) -> Self
         ensures { result ≡ set_cached message self }
     {
         self.cached_promise_message = message;
         self
     }
 
-    pub fn set_latest_accepted(mut self, meta: Option<AcceptedAt>) -> SequencePaxos
+    pub fn set_latest_accepted(mut self, meta: Option<AcceptedAt>) -> Self
         ensures { result ≡ set_meta meta self }
     {
         self.latest_accepted_meta = meta;
         self
     }
 
-    pub fn set_buffered(mut self, n: usize) -> SequencePaxos
+    pub fn set_buffered(mut self, n: usize) -> Self
         ensures { result ≡ set_buffered n self }
     {
         self.buffered_proposals = n;
         self
     }
 
-    pub fn set_writes(mut self, w: Writes) -> SequencePaxos
+    pub fn set_writes(mut self, w: Writes) -> Self
         ensures { result ≡ with_writes w self }
     {
-        let p = self.plan;
-        let next = p.with_writes(w);
-        self.plan = next;
+        self.plan.writes = w;
         self
     }
 }
 
 impl Writes {
-    pub fn with_log(self, log: LogOp) -> Writes
+    pub fn with_log(self, log: LogOp) -> Self
         ensures { result ≡ log_op log self }
     {
-        let cached = self.cached;
-        let best = self.best;
-        let buffer = self.buffer;
-        Writes {
-            log,
-            buffered: self.buffered,
-            dropped: self.dropped,
-            cached,
-            best,
-            buffer,
-        }
+        Self { log, ..self }
     }
 
-    pub fn with_cached(self, cached: Option<LogSync>) -> Writes
+    pub fn with_cached(self, cached: Option<LogSync>) -> Self
         ensures { result ≡ cached_op cached self }
     {
-        let log = self.log;
-        let best = self.best;
-        let buffer = self.buffer;
-        Writes {
-            log,
-            buffered: self.buffered,
-            dropped: self.dropped,
-            cached,
-            best,
-            buffer,
-        }
+        Self { cached, ..self }
     }
 
-    pub fn with_best(self, best: Option<usize>) -> Writes
+    pub fn with_best(self, best: Option<usize>) -> Self
         ensures { result ≡ best_op best self }
     {
-        let log = self.log;
-        let cached = self.cached;
-        let buffer = self.buffer;
-        Writes {
-            log,
-            buffered: self.buffered,
-            dropped: self.dropped,
-            cached,
-            best,
-            buffer,
-        }
+        Self { best, ..self }
     }
 
-    pub fn with_buffer(self, buffer: Option<usize>) -> Writes
+    pub fn with_buffer(self, buffer: Option<usize>) -> Self
         ensures { result ≡ buffer_op buffer self }
     {
-        let log = self.log;
-        let cached = self.cached;
-        let best = self.best;
-        Writes {
-            log,
-            buffered: self.buffered,
-            dropped: self.dropped,
-            cached,
-            best,
-            buffer,
-        }
+        Self { buffer, ..self }
     }
 
     // So many buffered proposals join the log, so many are dropped.
-    pub fn with_buffered(mut self, kept: usize, dropped: usize) -> Writes
+    pub fn with_buffered(mut self, kept: usize, dropped: usize) -> Self
         ensures { result ≡ kept_buffered kept dropped self }
     {
         self.buffered = kept;

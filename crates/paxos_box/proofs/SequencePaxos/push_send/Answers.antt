@@ -5,4 +5,4 @@ use Rattle.paxos_box.proofs.SequencePaxos.push_send.Goals as goal
 
 pub returns-clause-room_2 : goal.returns-clause-room_2
 unfolding push_of
-returns-clause-room_2 c = rw c.with_send-next.ensures (room-push c.args.self c.args.m c.requires.count_bound c.requires.room)
+returns-clause-room_2 c = rw c.with_send-self.ensures (room-push c.args.self c.args.m c.requires.count_bound c.requires.room)
