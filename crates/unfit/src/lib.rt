@@ -2,7 +2,7 @@
 #![tactic(auto)]
 
 ghost use Rattle.std.specs.Prelude.{◌≡◌};
-ghost use Rattle.unfit.specs.Unfit.{no_depot, wrong_sender, stranger_of, is_from, carries, entry_above, past, either_past, start_past, index_above, count_off, forward_off, foreign, either_foreign, ballot_foreign, ballot_default, not_by, sender_off, decided_above, message_unfit, proposal_unfit, unfit_of};
+ghost use Rattle.unfit.specs.Unfit.{no_depot, wrong_sender, stranger_of, carries, entry_above, past, either_past, start_past, index_above, count_off, forward_off, foreign, either_foreign, ballot_foreign, ballot_default, not_by, sender_off, decided_above, message_unfit, proposal_unfit, unfit_of};
 
 use ballot::Ballot;
 use base::{MAX_LOG, MAX_PROPOSAL};
@@ -20,10 +20,7 @@ fn no_depot(c: Configuration, pid: u64) -> bool
 fn wrong_sender(c: Configuration, from: u64) -> bool
     ensures { result ≡ wrong_sender c from }
 {
-    if no_depot(c, from) {
-        return true;
-    }
-    from == c.pid
+    no_depot(c, from) || from == c.pid
 }
 
 // Refusal 3.
@@ -32,21 +29,9 @@ pub fn stranger(c: Configuration, e: Event) -> bool
 {
     match e {
         Event::Message(m) => wrong_sender(c, m.from),
-        Event::Propose => false,
         Event::Leader(n) => no_depot(c, n.pid),
         Event::Reconnect(pid) => no_depot(c, pid),
-        Event::Resend => false,
-        Event::Drain => false,
-        Event::Restart => false,
-    }
-}
-
-fn is_from(s: Option<usize>) -> bool
-    ensures { result ≡ is_from s }
-{
-    match s {
-        None => false,
-        Some(_) => true,
+        _ => false,
     }
 }
 
@@ -55,18 +40,9 @@ pub fn carries(m: PaxosMsg) -> bool
     ensures { result ≡ carries m }
 {
     match m {
-        PaxosMsg::PrepareReq(_) => false,
-        PaxosMsg::Prepare(_) => false,
-        PaxosMsg::Promise(p) => {
-            let s = p.log_sync;
-            is_from(s)
-        }
-        PaxosMsg::AcceptSync(_) => true,
-        PaxosMsg::AcceptDecide(_) => true,
-        PaxosMsg::Accepted(_) => false,
-        PaxosMsg::NotAccepted(_) => false,
-        PaxosMsg::Decide(_) => false,
-        PaxosMsg::ProposalForward => true,
+        PaxosMsg::Promise(p) => p.log_sync.is_some(),
+        PaxosMsg::AcceptSync(_) | PaxosMsg::AcceptDecide(_) | PaxosMsg::ProposalForward => true,
+        _ => false,
     }
 }
 
@@ -74,10 +50,7 @@ pub fn carries(m: PaxosMsg) -> bool
 fn entry_above(m: PaxosMsg, entries: &[u64]) -> bool
     ensures { result ≡ entry_above m entries.now }
 {
-    if carries(m) {
-        return hire_book::any_above(entries);
-    }
-    false
+    carries(m) && hire_book::any_above(entries)
 }
 
 fn past(idx: usize) -> bool
@@ -90,40 +63,28 @@ fn past(idx: usize) -> bool
 fn either_past(a: usize, b: usize) -> bool
     ensures { result ≡ either_past a b }
 {
-    if past(a) {
-        return true;
-    }
-    past(b)
+    past(a) || past(b)
 }
 
 fn start_past(s: Option<usize>) -> bool
     ensures { result ≡ start_past s }
 {
-    match s {
-        None => false,
-        Some(start) => past(start),
-    }
+    s.is_some_and(past)
 }
 
 fn index_above(m: PaxosMsg) -> bool
     ensures { result ≡ index_above m }
 {
     match m {
-        PaxosMsg::PrepareReq(_) => false,
         PaxosMsg::Prepare(x) => either_past(x.decided_idx, x.accepted_idx),
         PaxosMsg::Promise(x) => {
-            if either_past(x.decided_idx, x.accepted_idx) {
-                return true;
-            }
-            let s = x.log_sync;
-            start_past(s)
+            either_past(x.decided_idx, x.accepted_idx) || start_past(x.log_sync)
         }
         PaxosMsg::AcceptSync(x) => either_past(x.decided_idx, x.sync_idx),
         PaxosMsg::AcceptDecide(x) => past(x.decided_idx),
         PaxosMsg::Accepted(x) => past(x.accepted_idx),
-        PaxosMsg::NotAccepted(_) => false,
         PaxosMsg::Decide(x) => past(x.decided_idx),
-        PaxosMsg::ProposalForward => false,
+        PaxosMsg::PrepareReq(_) | PaxosMsg::NotAccepted(_) | PaxosMsg::ProposalForward => false,
     }
 }
 
@@ -131,26 +92,13 @@ fn index_above(m: PaxosMsg) -> bool
 fn count_off(n: usize) -> bool
     ensures { result ≡ count_off n }
 {
-    if n == 0 {
-        return true;
-    }
-    MAX_PROPOSAL < n
+    n == 0 || MAX_PROPOSAL < n
 }
 
 fn forward_off(m: PaxosMsg, n: usize) -> bool
     ensures { result ≡ forward_off m n }
 {
-    match m {
-        PaxosMsg::PrepareReq(_) => false,
-        PaxosMsg::Prepare(_) => false,
-        PaxosMsg::Promise(_) => false,
-        PaxosMsg::AcceptSync(_) => false,
-        PaxosMsg::AcceptDecide(_) => false,
-        PaxosMsg::Accepted(_) => false,
-        PaxosMsg::NotAccepted(_) => false,
-        PaxosMsg::Decide(_) => false,
-        PaxosMsg::ProposalForward => count_off(n),
-    }
+    matches!(m, PaxosMsg::ProposalForward) && count_off(n)
 }
 
 // A nonzero ballot whose pid is no depot.
@@ -158,20 +106,14 @@ fn forward_off(m: PaxosMsg, n: usize) -> bool
 pub fn foreign(c: Configuration, n: Ballot) -> bool
     ensures { result ≡ foreign c n }
 {
-    if n.is_default() {
-        return false;
-    }
-    no_depot(c, n.pid)
+    !n.is_default() && no_depot(c, n.pid)
 }
 
 #[tactic(auto, unfolding(crate::specs::Unfit::either_foreign))]
 pub fn either_foreign(c: Configuration, a: Ballot, b: Ballot) -> bool
     ensures { result ≡ either_foreign c a b }
 {
-    if foreign(c, a) {
-        return true;
-    }
-    foreign(c, b)
+    foreign(c, a) || foreign(c, b)
 }
 
 pub fn ballot_foreign(c: Configuration, m: PaxosMsg) -> bool
@@ -194,15 +136,14 @@ fn ballot_default(m: PaxosMsg) -> bool
     ensures { result ≡ ballot_default m }
 {
     match m {
-        PaxosMsg::PrepareReq(_) => false,
-        PaxosMsg::Prepare(x) => Ballot::is_default(x.n),
-        PaxosMsg::Promise(x) => Ballot::is_default(x.n),
-        PaxosMsg::AcceptSync(x) => Ballot::is_default(x.n),
-        PaxosMsg::AcceptDecide(x) => Ballot::is_default(x.n),
-        PaxosMsg::Accepted(x) => Ballot::is_default(x.n),
-        PaxosMsg::NotAccepted(x) => Ballot::is_default(x.n),
-        PaxosMsg::Decide(x) => Ballot::is_default(x.n),
-        PaxosMsg::ProposalForward => false,
+        PaxosMsg::Prepare(x) => x.n.is_default(),
+        PaxosMsg::Promise(x) => x.n.is_default(),
+        PaxosMsg::AcceptSync(x) => x.n.is_default(),
+        PaxosMsg::AcceptDecide(x) => x.n.is_default(),
+        PaxosMsg::Accepted(x) => x.n.is_default(),
+        PaxosMsg::NotAccepted(x) => x.n.is_default(),
+        PaxosMsg::Decide(x) => x.n.is_default(),
+        PaxosMsg::PrepareReq(_) | PaxosMsg::ProposalForward => false,
     }
 }
 
@@ -216,15 +157,11 @@ fn sender_off(from: u64, m: PaxosMsg) -> bool
     ensures { result ≡ sender_off from m }
 {
     match m {
-        PaxosMsg::PrepareReq(_) => false,
         PaxosMsg::Prepare(x) => not_by(from, x.n),
-        PaxosMsg::Promise(_) => false,
         PaxosMsg::AcceptSync(x) => not_by(from, x.n),
         PaxosMsg::AcceptDecide(x) => not_by(from, x.n),
-        PaxosMsg::Accepted(_) => false,
-        PaxosMsg::NotAccepted(_) => false,
         PaxosMsg::Decide(x) => not_by(from, x.n),
-        PaxosMsg::ProposalForward => false,
+        _ => false,
     }
 }
 
@@ -232,15 +169,9 @@ fn decided_above(m: PaxosMsg) -> bool
     ensures { result ≡ decided_above m }
 {
     match m {
-        PaxosMsg::PrepareReq(_) => false,
         PaxosMsg::Prepare(x) => x.accepted_idx < x.decided_idx,
         PaxosMsg::Promise(x) => x.accepted_idx < x.decided_idx,
-        PaxosMsg::AcceptSync(_) => false,
-        PaxosMsg::AcceptDecide(_) => false,
-        PaxosMsg::Accepted(_) => false,
-        PaxosMsg::NotAccepted(_) => false,
-        PaxosMsg::Decide(_) => false,
-        PaxosMsg::ProposalForward => false,
+        _ => false,
     }
 }
 
@@ -248,35 +179,20 @@ fn decided_above(m: PaxosMsg) -> bool
 fn message_unfit(c: Configuration, from: u64, m: PaxosMsg, entries: &[u64]) -> bool
     ensures { result ≡ message_unfit c from m entries.now }
 {
-    if entry_above(m, entries) {
-        return true;
-    }
-    if index_above(m) {
-        return true;
-    }
-    if forward_off(m, entries.len()) {
-        return true;
-    }
-    if ballot_foreign(c, m) {
-        return true;
-    }
-    if ballot_default(m) {
-        return true;
-    }
-    if sender_off(from, m) {
-        return true;
-    }
-    decided_above(m)
+    entry_above(m, entries)
+        || index_above(m)
+        || forward_off(m, entries.len())
+        || ballot_foreign(c, m)
+        || ballot_default(m)
+        || sender_off(from, m)
+        || decided_above(m)
 }
 
 #[tactic(auto, unfolding(crate::specs::Unfit::proposal_unfit))]
 fn proposal_unfit(entries: &[u64]) -> bool
     ensures { result ≡ proposal_unfit entries.now }
 {
-    if hire_book::any_above(entries) {
-        return true;
-    }
-    count_off(entries.len())
+    hire_book::any_above(entries) || count_off(entries.len())
 }
 
 // Refusal 4, as far as it is given in every state.
@@ -284,15 +200,8 @@ pub fn unfit(c: Configuration, e: Event, entries: &[u64]) -> bool
     ensures { result ≡ unfit_of c e entries.now }
 {
     match e {
-        Event::Message(x) => {
-            let m = x.msg;
-            message_unfit(c, x.from, m, entries)
-        }
+        Event::Message(x) => message_unfit(c, x.from, x.msg, entries),
         Event::Propose => proposal_unfit(entries),
-        Event::Leader(_) => false,
-        Event::Reconnect(_) => false,
-        Event::Resend => false,
-        Event::Drain => false,
-        Event::Restart => false,
+        _ => false,
     }
 }
