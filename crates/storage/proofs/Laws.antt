@@ -1,9 +1,9 @@
 -- What a write leaves: before it, in it, past it; two writes in a row are one; and the log as the step leaves it.
 use Prim.Native.Nat.{ℕ, ◌+◌, ◌≤◌}
 use mathlib.Core.Path.{◌≡◌, refl, sym, ap, ◌∙◌}
-use mathlib.Core.List.{List, [], ◌++◌, append_assoc, append-nil}
+use mathlib.Core.List.{List, [], ◌++◌, append_assoc}
 use native.Mathlib.Omega.{arith}
-use lib.ListN.{length, take, drop, length-append, length-take, length-drop, take-append-drop}
+use lib.ListN.{length, take, drop, length-append, take-append-drop}
 use lib.Seq.{take-append-le, take-take, take_at, drop_at, length-take-le, drop-drop}
 use Rattle.base.specs.Lists.{over}
 use Rattle.paxos_box.specs.declared.LogOp.{LogOp}

@@ -6,6 +6,7 @@ ghost use Rattle.base.specs.Limits.{max_log, max_buffered};
 ghost use Rattle.base.specs.Lists.{over};
 ghost use Rattle.storage.specs.Storage.{put_at, end_after, op_on, log_after, cached_after, best_after, best_count, buffer_after, buffer_count};
 
+use base::MAX_BUFFERED;
 use leader_state::LogSync;
 use paxos_box::LogOp;
 
@@ -13,20 +14,14 @@ use paxos_box::LogOp;
 pub fn first(entries: &[u64], n: usize) -> &[u64]
     ensures { result.now ≡ take n entries.now }
 {
-    if n < entries.len() {
-        return &entries[..n];
-    }
-    entries
+    &entries[..n.min(entries.len())]
 }
 
 // The first n entries from a place on, or as many as there are.
 pub fn part(entries: &[u64], from: usize, n: usize) -> &[u64]
     ensures { result.now ≡ take n (drop from entries.now) }
 {
-    if entries.len() < from {
-        return first(entries, 0);
-    }
-    first(&entries[from..], n)
+    first(&entries[from.min(entries.len())..], n)
 }
 
 // The suffix over the part's start; the rest of the part as found.
@@ -35,11 +30,7 @@ pub fn write_suffix(part: &mut [u64], suffix: &[u64])
     requires { length suffix.now ≤ length part.old }
     ensures { part.new ≡ over suffix.now part.old }
 {
-    let mut i: usize = 0;
-    while i < suffix.len() {
-        part[i] = suffix[i];
-        i += 1;
-    }
+    part[..suffix.len()].copy_from_slice(suffix);
 }
 
 // The log from the sync index on is rewritten, and nothing before it is touched.
@@ -58,8 +49,7 @@ fn end_after(op: LogOp, len: usize) -> usize
     match op {
         LogOp::Keep => len,
         LogOp::Append(count) => len + count,
-        LogOp::PutGiven(x) => x.sync_idx + x.len,
-        LogOp::PutHeld(x) => x.sync_idx + x.len,
+        LogOp::PutGiven(x) | LogOp::PutHeld(x) => x.sync_idx + x.len,
     }
 }
 
@@ -68,9 +58,7 @@ fn put(log: &mut [u64], x: LogSync, suffix: &[u64])
     requires { x.sync_idx + x.len ≤ length log.old }
     ensures { log.new ≡ put_at x.sync_idx (take x.len suffix.now) log.old }
 {
-    let at = x.sync_idx;
-    let n = x.len;
-    sync_log(log, at, first(suffix, n));
+    sync_log(log, x.sync_idx, first(suffix, x.len));
 }
 
 fn write_op(log: &mut [u64], len: usize, op: LogOp, given: &[u64], held: &[u64])
@@ -93,7 +81,7 @@ pub fn write_log(
     op: LogOp,
     given: &[u64],
     held: &[u64],
-    buffered: [u64; 16],
+    buffered: [u64; MAX_BUFFERED],
     kept: usize,
 )
     requires log_len { length log.old ≡ max_log }
@@ -101,8 +89,7 @@ pub fn write_log(
     ensures { log.new ≡ log_after op len given.now held.now buffered kept log.old }
 {
     write_op(log, len, op, given, held);
-    let end = end_after(op, len);
-    sync_log(log, end, first(&buffered, kept));
+    sync_log(log, end_after(op, len), first(&buffered, kept));
 }
 
 // The cached promise's buffer, from the log as the step leaves it.
@@ -110,13 +97,8 @@ pub fn write_cached(cached: &mut [u64], log: &[u64], op: Option<LogSync>)
     requires { length log.now ≤ length cached.old }
     ensures { cached.new ≡ cached_after op log.now cached.old }
 {
-    match op {
-        None => {}
-        Some(x) => {
-            let from = x.sync_idx;
-            let n = x.len;
-            write_suffix(cached, part(log, from, n));
-        }
+    if let Some(x) = op {
+        write_suffix(cached, part(log, x.sync_idx, x.len));
     }
 }
 
@@ -125,23 +107,23 @@ pub fn write_best(best: &mut [u64], given: &[u64], op: Option<usize>)
     requires { best_count op ≤ length best.old }
     ensures { best.new ≡ best_after op given.now best.old }
 {
-    match op {
-        None => {}
-        Some(count) => write_suffix(best, first(given, count)),
+    if let Some(count) = op {
+        write_suffix(best, first(given, count));
     }
 }
 
 // The buffered proposals, of which the first `len` wait.
-pub fn write_buffer(entries: [u64; 16], len: usize, given: &[u64], op: Option<usize>) -> [u64; 16]
+pub fn write_buffer(
+    mut entries: [u64; MAX_BUFFERED],
+    len: usize,
+    given: &[u64],
+    op: Option<usize>,
+) -> [u64; MAX_BUFFERED]
     requires { len + buffer_count op ≤ max_buffered }
     ensures { result ≡ buffer_after op len given.now entries }
 {
-    match op {
-        None => entries,
-        Some(count) => {
-            let mut all = entries;
-            sync_log(&mut all, len, first(given, count));
-            all
-        }
+    if let Some(count) = op {
+        sync_log(&mut entries, len, first(given, count));
     }
+    entries
 }
