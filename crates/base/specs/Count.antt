@@ -1,6 +1,6 @@
 -- Counting and the largest over a list, with one more element at the end.
-use Rattle.std.specs.Prelude.{ℕ, zero, suc, ◌+◌, ◌<◌, ◌≤◌, max, ◌≡◌, refl, Bool, true, false, cond, take, get_or, length}
-use Rattle.std.proofs.Common.{ap, sym, ◌∙◌, take-suc, add-one}
+use Rattle.std.specs.Prelude.{ℕ, zero, suc, ◌+◌, ◌<◌, max, ◌≡◌, Bool, true, false, take, get_or, length}
+use Rattle.std.proofs.Common.{take-suc, add-one}
 use mathlib.Core.List.{List, [], ◌∷◌, ◌++◌}
 use native.Mathlib.Omega.{arith}
 

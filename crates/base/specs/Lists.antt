@@ -1,5 +1,5 @@
 -- Lists: the first places changed, a list from a function, a part laid over another.
-use Rattle.std.specs.Prelude.{ℕ, zero, suc, ◌+◌, List, [], ◌∷◌, ◌++◌, map, take, drop, length}
+use Rattle.std.specs.Prelude.{ℕ, zero, suc, List, [], ◌∷◌, ◌++◌, drop, length}
 
 module _ {A : Type 0} where
   -- f at each of the first n places
