@@ -14,15 +14,12 @@ pub struct Ballot {
     pub pid: u64,
 }
 
+// Kept: public functions whose promises the crates above and pins_rules name; each is one call of a derived one.
 impl Ballot {
     pub fn default() -> Ballot
         ensures { result ≡ default }
     {
-        Ballot {
-            n: 0,
-            priority: 0,
-            pid: 0,
-        }
+        Default::default()
     }
 
     #[tactic(auto, unfolding(crate::specs::Ballot::compare_of))]

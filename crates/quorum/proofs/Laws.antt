@@ -1,9 +1,9 @@
 -- A majority stands at every depot count; a read and a write quorum share a depot. Both are stated once, over the count.
-use Prim.Native.Nat.{ℕ, ◌+◌, ◌/◌, ◌≤◌, ◌<◌}
+use Prim.Native.Nat.{ℕ, ◌+◌, ◌≤◌, ◌<◌}
 use mathlib.Core.Path.{◌≡◌, refl}
 use mathlib.Core.Bool.{Bool, true, false, cond}
 use native.Mathlib.Omega.{arith}
-use lib.Dec.{ltb, leb, eqb}
+use lib.Dec.{ltb, eqb}
 use borrow.Author.Tests.{le-ltb, lt-ltb, ltb-true, ltb-false, ne_eqb, eqb-false, le-leb, leb-true}
 use Rattle.base.specs.Count.{count_below}
 use Rattle.base.proofs.Meet.{Shared, meet}

@@ -1,5 +1,5 @@
 -- Document 01, "Quorums": Majority is depots / 2 rounded down, plus 1, for both; Flexible has a read and a write size. A count reaches a quorum when it is at least the size.
-use Rattle.std.specs.Prelude.{ℕ, ◌+◌, ◌/◌, Bool, true, false, cond, ◌&&◌, leb, ltb, eqb, Option, None, Some}
+use Rattle.std.specs.Prelude.{ℕ, ◌+◌, ◌/◌, Bool, false, cond, leb, ltb, eqb, Option, None, Some}
 use Rattle.base.specs.Limits.{min_depots, max_depots}
 use Rattle.quorum.specs.declared.FlexibleQuorum.{FlexibleQuorum}
 use Rattle.quorum.specs.declared.Quorum.{Quorum}

@@ -6,21 +6,21 @@ ghost use Rattle.quorum.specs.Quorum.{majority_of, with_of, read_size, write_siz
 
 use base::{MAX_DEPOTS, MIN_DEPOTS};
 
-#[derive(Clone, Copy)]
+#[derive(Clone, Copy, Debug, PartialEq, Eq)]
 pub struct FlexibleQuorum {
     pub read_quorum_size: u64,
     pub write_quorum_size: u64,
 }
 
 // The size of a majority, or a read and a write size.
-#[derive(Clone, Copy)]
+#[derive(Clone, Copy, Debug, PartialEq, Eq)]
 pub enum Quorum {
     Majority(u64),
     Flexible(FlexibleQuorum),
 }
 
 // What every depot of a cluster is told: how many depots there are, its own pid, and the quorums.
-#[derive(Clone, Copy)]
+#[derive(Clone, Copy, Debug, PartialEq, Eq)]
 pub struct Configuration {
     pub depots: u64,
     pub pid: u64,
@@ -74,30 +74,15 @@ impl Quorum {
 fn in_depots(size: u64, depots: u64) -> bool
     ensures { result ≡ is_depot size depots }
 {
-    if size == 0 {
-        return false;
-    }
-    size <= depots
+    (1..=depots).contains(&size)
 }
 
 // Both sizes in range, and together above the depots.
-#[tactic(auto, unfolding(crate::specs::Quorum::sizes_stand))]
+#[tactic(auto, unfolding(crate::specs::Quorum::is_depot, crate::specs::Quorum::sizes_stand))]
 fn sizes_stand(read: u64, write: u64, depots: u64) -> bool
     ensures { result ≡ sizes_stand read write depots }
 {
-    if read == 0 {
-        return false;
-    }
-    if depots < read {
-        return false;
-    }
-    if write == 0 {
-        return false;
-    }
-    if depots < write {
-        return false;
-    }
-    depots - read < write
+    in_depots(read, depots) && in_depots(write, depots) && depots - read < write
 }
 
 impl Configuration {
@@ -106,18 +91,13 @@ impl Configuration {
     pub fn stands(self) -> bool
         ensures { result ≡ stands_of self }
     {
-        let depots = self.depots;
-        let q = self.quorum;
-        if depots < MIN_DEPOTS {
-            return false;
-        }
-        if MAX_DEPOTS < depots {
-            return false;
-        }
-        if !in_depots(self.pid, depots) {
-            return false;
-        }
-        sizes_stand(q.read_size(), q.write_size(), depots)
+        (MIN_DEPOTS..=MAX_DEPOTS).contains(&self.depots)
+            && self.is_depot(self.pid)
+            && sizes_stand(
+                self.quorum.read_size(),
+                self.quorum.write_size(),
+                self.depots,
+            )
     }
 
     // Whether a pid is a depot's: 1 to depots.

@@ -1,5 +1,5 @@
 -- Document 01, "Sequence numbers": same session and counter one higher: Expected. Otherwise not above one's own (session, then counter): Outdated. Otherwise DroppedPreceding.
-use Rattle.std.specs.Prelude.{ℕ, ◌+◌, Bool, cond, ◌&&◌, ◌||◌, ltb, leb, eqb}
+use Rattle.std.specs.Prelude.{◌+◌, Bool, cond, ◌&&◌, ◌||◌, ltb, leb, eqb}
 use Rattle.sequence.specs.declared.SequenceNumber.{SequenceNumber}
 use Rattle.sequence.specs.declared.MessageStatus.{MessageStatus}
 use Rattle.sequence.specs.declared.MessageStatus.TheVariants.{Expected, DroppedPreceding, Outdated}

@@ -5,13 +5,13 @@ ghost use Rattle.std.specs.Prelude.{◌≡◌};
 ghost use Rattle.sequence.specs.Sequence.{status_of, first};
 
 // A session and a counter within it; compared in that order.
-#[derive(Clone, Copy)]
+#[derive(Clone, Copy, Debug, PartialEq, Eq, PartialOrd, Ord, Default)]
 pub struct SequenceNumber {
     pub session: u64,
     pub counter: u64,
 }
 
-#[derive(Clone, Copy)]
+#[derive(Clone, Copy, Debug, PartialEq, Eq)]
 pub enum MessageStatus {
     Expected,
     DroppedPreceding,
@@ -19,13 +19,11 @@ pub enum MessageStatus {
 }
 
 impl SequenceNumber {
+    // Kept: a public function whose promise the crates above and pins_rules name; it calls the derived one.
     pub fn default() -> SequenceNumber
         ensures { result ≡ first }
     {
-        SequenceNumber {
-            session: 0,
-            counter: 0,
-        }
+        Default::default()
     }
 
     // Total: where the own counter is at its top, no counter is one higher.
@@ -33,18 +31,13 @@ impl SequenceNumber {
     pub fn check_msg_status(self, msg_seq_num: SequenceNumber) -> MessageStatus
         ensures { result ≡ status_of self msg_seq_num }
     {
-        if msg_seq_num.session == self.session {
-            if msg_seq_num.counter <= self.counter {
-                return MessageStatus::Outdated;
-            }
-            if msg_seq_num.counter - self.counter == 1 {
-                return MessageStatus::Expected;
-            }
-            return MessageStatus::DroppedPreceding;
+        let expected = self.counter.checked_add(1);
+        if msg_seq_num.session == self.session && Some(msg_seq_num.counter) == expected {
+            MessageStatus::Expected
+        } else if msg_seq_num <= self {
+            MessageStatus::Outdated
+        } else {
+            MessageStatus::DroppedPreceding
         }
-        if msg_seq_num.session < self.session {
-            return MessageStatus::Outdated;
-        }
-        MessageStatus::DroppedPreceding
     }
 }
