@@ -5,16 +5,21 @@ ghost use Rattle.std.specs.Prelude.{◌≡◌};
 ghost use Rattle.record.specs.Record.{fresh_record, fresh_plan, load_of, store_of};
 
 use ballot::Ballot;
+use base::MAX_BUFFERED;
 use leader_state::{Depot, LeaderState, MaxPromise};
 use messages::PaxosMsg;
-use paxos_box::{AcceptedAt, CachedPromise, InternalStorage, LogOp, Outgoing, Phase, Plan, Role, Send, Sends, Sent, SequencePaxos, Sight, Source, State, Writes};
+use paxos_box::{
+    AcceptedAt, CachedPromise, InternalStorage, LogOp, Outgoing, Phase, Plan, Role, Send, Sends,
+    Sent, SequencePaxos, Sight, Source, State, Writes,
+};
 use quorum::Configuration;
 use sequence::SequenceNumber;
 
 // The buffered proposals: the first `len` of them wait.
+// Kept: a buffer with its length beside it, since nothing is on the heap and `cell_laws` says that the cells past the length keep what they held; C reads them all (docs/LAYOUT.md).
 #[derive(Clone, Copy)]
 pub struct Buffered {
-    pub entries: [u64; 16],
+    pub entries: [u64; MAX_BUFFERED],
     pub len: usize,
 }
 
@@ -41,23 +46,21 @@ fn fresh_plan(sight: Sight) -> Plan
         source: Source::Nothing,
         count: 0,
     };
-    let sends = Sends {
-        items: [none; 8],
-        count: 0,
-        messages: 0,
-        entries: 0,
-    };
-    let writes = Writes {
-        log: LogOp::Keep,
-        buffered: 0,
-        dropped: 0,
-        cached: None,
-        best: None,
-        buffer: None,
-    };
     Plan {
-        sends,
-        writes,
+        sends: Sends {
+            items: [none; 8],
+            count: 0,
+            messages: 0,
+            entries: 0,
+        },
+        writes: Writes {
+            log: LogOp::Keep,
+            buffered: 0,
+            dropped: 0,
+            cached: None,
+            best: None,
+            buffer: None,
+        },
         unfit: false,
         top: false,
         sight,
@@ -66,40 +69,32 @@ fn fresh_plan(sight: Sight) -> Plan
 
 impl Record {
     // A box that never ran: (Follower, None), nothing promised, nothing accepted.
-    pub fn fresh() -> Record
+    pub fn fresh() -> Self
         ensures { result ≡ fresh_record }
     {
-        let none = Ballot::default();
-        let internal_storage = InternalStorage {
-            promise: none,
-            accepted_round: none,
-            decided_idx: 0,
-            accepted_idx: 0,
-        };
-        let state = State {
-            role: Role::Follower,
-            phase: Phase::None,
-        };
-        let buffered_proposals = Buffered {
-            entries: [0; 16],
-            len: 0,
-        };
-        let place = Depot::fresh();
-        let max_promise = MaxPromise::none();
-        let leader_state = LeaderState {
-            n_leader: none,
-            depots: [place; 7],
-            max_promise,
-        };
-        let current_seq_num = SequenceNumber::default();
-        Record {
-            internal_storage,
-            state,
-            buffered_proposals,
+        Self {
+            internal_storage: InternalStorage {
+                promise: Ballot::default(),
+                accepted_round: Ballot::default(),
+                decided_idx: 0,
+                accepted_idx: 0,
+            },
+            state: State {
+                role: Role::Follower,
+                phase: Phase::None,
+            },
+            buffered_proposals: Buffered {
+                entries: [0; MAX_BUFFERED],
+                len: 0,
+            },
             outgoing: 0,
-            leader_state,
+            leader_state: LeaderState {
+                n_leader: Ballot::default(),
+                depots: [Depot::fresh(); 7],
+                max_promise: MaxPromise::none(),
+            },
             latest_accepted_meta: None,
-            current_seq_num,
+            current_seq_num: SequenceNumber::default(),
             cached_promise_message: None,
         }
     }
@@ -108,55 +103,39 @@ impl Record {
     pub fn load(self, config: Configuration, entries: usize, sight: Sight) -> SequencePaxos
         ensures { result ≡ load_of config entries sight self }
     {
-        let internal_storage = self.internal_storage;
-        let state = self.state;
-        let buffered = self.buffered_proposals;
-        let outgoing = Outgoing {
-            len: self.outgoing,
-            entries,
-        };
-        let leader_state = self.leader_state;
-        let latest_accepted_meta = self.latest_accepted_meta;
-        let current_seq_num = self.current_seq_num;
-        let cached_promise_message = self.cached_promise_message;
-        let plan = fresh_plan(sight);
         SequencePaxos {
             config,
-            internal_storage,
-            state,
-            buffered_proposals: buffered.len,
-            outgoing,
-            leader_state,
-            latest_accepted_meta,
-            current_seq_num,
-            cached_promise_message,
-            plan,
+            internal_storage: self.internal_storage,
+            state: self.state,
+            buffered_proposals: self.buffered_proposals.len,
+            outgoing: Outgoing {
+                len: self.outgoing,
+                entries,
+            },
+            leader_state: self.leader_state,
+            latest_accepted_meta: self.latest_accepted_meta,
+            current_seq_num: self.current_seq_num,
+            cached_promise_message: self.cached_promise_message,
+            plan: fresh_plan(sight),
         }
     }
 
     // The record after a step: what was decided, with these buffered entries and so many messages in the row.
-    pub fn store(s: SequencePaxos, entries: [u64; 16], outgoing: usize) -> Record
+    pub fn store(s: SequencePaxos, entries: [u64; MAX_BUFFERED], outgoing: usize) -> Self
         ensures { result ≡ store_of s entries outgoing }
     {
-        let internal_storage = s.internal_storage;
-        let state = s.state;
-        let buffered_proposals = Buffered {
-            entries,
-            len: s.buffered_proposals,
-        };
-        let leader_state = s.leader_state;
-        let latest_accepted_meta = s.latest_accepted_meta;
-        let current_seq_num = s.current_seq_num;
-        let cached_promise_message = s.cached_promise_message;
-        Record {
-            internal_storage,
-            state,
-            buffered_proposals,
+        Self {
+            internal_storage: s.internal_storage,
+            state: s.state,
+            buffered_proposals: Buffered {
+                entries,
+                len: s.buffered_proposals,
+            },
             outgoing,
-            leader_state,
-            latest_accepted_meta,
-            current_seq_num,
-            cached_promise_message,
+            leader_state: s.leader_state,
+            latest_accepted_meta: s.latest_accepted_meta,
+            current_seq_num: s.current_seq_num,
+            cached_promise_message: s.cached_promise_message,
         }
     }
 }
