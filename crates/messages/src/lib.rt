@@ -2,19 +2,19 @@
 #![tactic(auto)]
 
 ghost use Rattle.std.specs.Prelude.{◌≡◌};
-ghost use Rattle.messages.specs.Messages.{is_accept_decide, is_accepted, with_decided, with_accepted, decided_as, accepted_as};
+ghost use Rattle.messages.specs.Messages.{is_accept_decide, is_accepted, with_decided, with_accepted};
 
 use ballot::Ballot;
 use sequence::SequenceNumber;
 
 // A follower asks to be prepared again, and tells its promise.
-#[derive(Clone, Copy)]
+#[derive(Clone, Copy, Debug, PartialEq, Eq)]
 pub struct PrepareReq {
     pub n: Ballot,
 }
 
 // A leader prepares a follower, and tells how far its own log goes.
-#[derive(Clone, Copy)]
+#[derive(Clone, Copy, Debug, PartialEq, Eq)]
 pub struct Prepare {
     pub n: Ballot,
     pub decided_idx: usize,
@@ -22,7 +22,7 @@ pub struct Prepare {
     pub accepted_idx: usize,
 }
 
-#[derive(Clone, Copy)]
+#[derive(Clone, Copy, Debug, PartialEq, Eq)]
 pub struct Promise {
     pub n: Ballot,
     pub n_accepted: Ballot,
@@ -32,7 +32,7 @@ pub struct Promise {
 }
 
 // The log from `sync_idx` on is to become the suffix, which stands beside it.
-#[derive(Clone, Copy)]
+#[derive(Clone, Copy, Debug, PartialEq, Eq)]
 pub struct AcceptSync {
     pub n: Ballot,
     pub seq_num: SequenceNumber,
@@ -41,32 +41,32 @@ pub struct AcceptSync {
 }
 
 // Entries to be appended, which stand beside it, and the decided index.
-#[derive(Clone, Copy)]
+#[derive(Clone, Copy, Debug, PartialEq, Eq)]
 pub struct AcceptDecide {
     pub n: Ballot,
     pub seq_num: SequenceNumber,
     pub decided_idx: usize,
 }
 
-#[derive(Clone, Copy)]
+#[derive(Clone, Copy, Debug, PartialEq, Eq)]
 pub struct Accepted {
     pub n: Ballot,
     pub accepted_idx: usize,
 }
 
-#[derive(Clone, Copy)]
+#[derive(Clone, Copy, Debug, PartialEq, Eq)]
 pub struct NotAccepted {
     pub n: Ballot,
 }
 
-#[derive(Clone, Copy)]
+#[derive(Clone, Copy, Debug, PartialEq, Eq)]
 pub struct Decide {
     pub n: Ballot,
     pub seq_num: SequenceNumber,
     pub decided_idx: usize,
 }
 
-#[derive(Clone, Copy)]
+#[derive(Clone, Copy, Debug, PartialEq, Eq)]
 pub enum PaxosMsg {
     PrepareReq(PrepareReq),
     Prepare(Prepare),
@@ -80,14 +80,14 @@ pub enum PaxosMsg {
 }
 
 // A message that arrives.
-#[derive(Clone, Copy)]
+#[derive(Clone, Copy, Debug, PartialEq, Eq)]
 pub struct PaxosMessage {
     pub from: u64,
     pub msg: PaxosMsg,
 }
 
 // A message of the outgoing queue: to whom, what, and where in the store its entries lie.
-#[derive(Clone, Copy)]
+#[derive(Clone, Copy, Debug, PartialEq, Eq)]
 pub struct Head {
     pub to: u64,
     pub msg: PaxosMsg,
@@ -96,13 +96,13 @@ pub struct Head {
 }
 
 // The row of heads by value. How many of them wait is the record's.
-#[derive(Clone, Copy)]
+#[derive(Clone, Copy, Debug, PartialEq, Eq)]
 pub struct Row {
     pub heads: [Head; 64],
 }
 
 // What a step is given. The entries of a message or a proposal stand beside it.
-#[derive(Clone, Copy)]
+#[derive(Clone, Copy, Debug, PartialEq, Eq)]
 pub enum Event {
     Message(PaxosMessage),
     Propose,
@@ -113,55 +113,17 @@ pub enum Event {
     Restart,
 }
 
-impl AcceptDecide {
-    fn with_decided(mut self, decided_idx: usize) -> AcceptDecide
-        ensures { result ≡ decided_as decided_idx self }
-    {
-        self.decided_idx = decided_idx;
-        self
-    }
-}
-
-impl Accepted {
-    fn with_index(mut self, accepted_idx: usize) -> Accepted
-        ensures { result ≡ accepted_as accepted_idx self }
-    {
-        self.accepted_idx = accepted_idx;
-        self
-    }
-}
-
 impl PaxosMsg {
     pub fn is_accept_decide(self) -> bool
         ensures { result ≡ is_accept_decide self }
     {
-        match self {
-            PaxosMsg::PrepareReq(_) => false,
-            PaxosMsg::Prepare(_) => false,
-            PaxosMsg::Promise(_) => false,
-            PaxosMsg::AcceptSync(_) => false,
-            PaxosMsg::AcceptDecide(_) => true,
-            PaxosMsg::Accepted(_) => false,
-            PaxosMsg::NotAccepted(_) => false,
-            PaxosMsg::Decide(_) => false,
-            PaxosMsg::ProposalForward => false,
-        }
+        matches!(self, PaxosMsg::AcceptDecide(_))
     }
 
     pub fn is_accepted(self) -> bool
         ensures { result ≡ is_accepted self }
     {
-        match self {
-            PaxosMsg::PrepareReq(_) => false,
-            PaxosMsg::Prepare(_) => false,
-            PaxosMsg::Promise(_) => false,
-            PaxosMsg::AcceptSync(_) => false,
-            PaxosMsg::AcceptDecide(_) => false,
-            PaxosMsg::Accepted(_) => true,
-            PaxosMsg::NotAccepted(_) => false,
-            PaxosMsg::Decide(_) => false,
-            PaxosMsg::ProposalForward => false,
-        }
+        matches!(self, PaxosMsg::Accepted(_))
     }
 
     // An AcceptDecide with another decided index; any other message as it is.
@@ -169,15 +131,8 @@ impl PaxosMsg {
         ensures { result ≡ with_decided decided_idx self }
     {
         match self {
-            PaxosMsg::PrepareReq(_) => self,
-            PaxosMsg::Prepare(_) => self,
-            PaxosMsg::Promise(_) => self,
-            PaxosMsg::AcceptSync(_) => self,
-            PaxosMsg::AcceptDecide(m) => PaxosMsg::AcceptDecide(m.with_decided(decided_idx)),
-            PaxosMsg::Accepted(_) => self,
-            PaxosMsg::NotAccepted(_) => self,
-            PaxosMsg::Decide(_) => self,
-            PaxosMsg::ProposalForward => self,
+            PaxosMsg::AcceptDecide(m) => PaxosMsg::AcceptDecide(AcceptDecide { decided_idx, ..m }),
+            _ => self,
         }
     }
 
@@ -186,15 +141,8 @@ impl PaxosMsg {
         ensures { result ≡ with_accepted accepted_idx self }
     {
         match self {
-            PaxosMsg::PrepareReq(_) => self,
-            PaxosMsg::Prepare(_) => self,
-            PaxosMsg::Promise(_) => self,
-            PaxosMsg::AcceptSync(_) => self,
-            PaxosMsg::AcceptDecide(_) => self,
-            PaxosMsg::Accepted(m) => PaxosMsg::Accepted(m.with_index(accepted_idx)),
-            PaxosMsg::NotAccepted(_) => self,
-            PaxosMsg::Decide(_) => self,
-            PaxosMsg::ProposalForward => self,
+            PaxosMsg::Accepted(m) => PaxosMsg::Accepted(Accepted { accepted_idx, ..m }),
+            _ => self,
         }
     }
 }
