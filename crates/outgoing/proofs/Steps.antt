@@ -25,10 +25,10 @@ use Rattle.outgoing.proofs.Heads.{inside-whole, length-entries}
 use Rattle.outgoing.proofs.Laid.{laid-queue, laid-packed, laid-again, length-heads, heads-carried, entries-append, take-over}
 use Rattle.outgoing.proofs.Edits.{packed-length}
 
--- a thing whose entries come from their source
-pub from-source : (f : Sources) (m : Send) (x : Source) (es : List ℕ) (q : List Msg) (w v : Lent) → m.source ≡ x → es ≡ take m.count (source_of x f) → v ≡ laid (done_to m.what m.to es q) w → v ≡ laid (perform_one f m q) w
+-- a thing done with the entries of its source
+pub with-entries : (f : Sources) (m : Send) (es : List ℕ) (q : List Msg) (w v : Lent) → es ≡ entries_of f m → v ≡ laid (done_to m.what m.to es q) w → v ≡ laid (perform_one f m q) w
 unfolding perform_one
-from-source f m x es q w v e p r = rw (e, ← p) r
+with-entries f m es q w v p r = rw (← p) r
 
 length-on-place : {A : Type 0} (f : A → A) (k : ℕ) (l : List A) → length (on_place k f l) ≡ length l
 unfolding on_place
@@ -57,7 +57,7 @@ one_grows (New m) to es q =
 one_grows (Join j) to es q = entries-on-place (joined j.decided_idx es) es (λ m. omega (arith, length-append m.entries es)) j.at q
 one_grows (Raise r) to es q = entries-on-place (raised r.accepted_idx) es (λ m. omega arith) r.at q
 
-few : (f : Sources) (m : Send) → length (entries_of f m) ≤ m.count
+pub few : (f : Sources) (m : Send) → length (entries_of f m) ≤ m.count
 few f m = at_most m.count (source_of m.source f) (entries_of f m) refl
 
 pub step-longer : (f : Sources) (m : Send) (q : List Msg) → length (perform_one f m q) ≡ length q + is_new m.what

@@ -26,34 +26,26 @@ any-default [] i d e h = absurd (omega arith)
 any-default (x ∷ l) zero d e h = refl
 any-default (x ∷ l) (suc i) d e h = any-default l i d e (omega arith)
 
--- the next of the first heads
-pub next : {A : Type 0} (l : List A) (len i : ℕ) (d : A) → i < len → len ≤ length l → drop i (take len l) ≡ get_or l i d ∷ drop (i + 1) (take len l)
-next l len i d h n =
-    let m : i < length (take len l) = rw (length-take-le len l n) h in
-    rw (add-one, drop-cons (take len l) i d m, get_or-take len l i d h)
+-- the next of those that are left, and none left
+pub next : {A : Type 0} (l : List A) (i : ℕ) (d : A) → i < length l → drop i l ≡ get_or l i d ∷ drop (i + 1) l
+next l i d h = rw (add-one, drop-cons l i d h)
 
--- none are left
-pub no_more : {A : Type 0} (l : List A) (len i : ℕ) → len ≤ i → drop i (take len l) ≡ []
-no_more l len i h =
-    let k : length (take len l) ≤ i = rw length-take (omega arith) in
-    drop_of_length-le (take len l) k
-
-pub carried-next : (hs : List Head) (len i : ℕ) (d : Head) → i < len → len ≤ length hs → carried (drop i (take len hs)) ≡ (get_or hs i d).count + carried (drop (i + 1) (take len hs))
+pub carried-next : (hs : List Head) (i : ℕ) (d : Head) → i < length hs → carried (drop i hs) ≡ (get_or hs i d).count + carried (drop (i + 1) hs)
 unfolding carried
-carried-next hs len i d h n = rw (next hs len i d h n)
+carried-next hs i d h = rw (next hs i d h)
 
 -- the test for packed heads
-pub packed-turn : (hs : List Head) (len i at : ℕ) (d : Head) → i < len → len ≤ length hs → (get_or hs i d).start ≡ at → packed_from at (drop i (take len hs)) ≡ packed_from (at + (get_or hs i d).count) (drop (i + 1) (take len hs))
+pub packed-turn : (hs : List Head) (i at : ℕ) (d : Head) → i < length hs → (get_or hs i d).start ≡ at → packed_from at (drop i hs) ≡ packed_from (at + (get_or hs i d).count) (drop (i + 1) hs)
 unfolding packed_from
-packed-turn hs len i at d h n e = rw (next hs len i d h n, eq-eqb (get_or hs i d).start at e)
+packed-turn hs i at d h e = rw (next hs i d h, eq-eqb (get_or hs i d).start at e)
 
-pub not-packed : (hs : List Head) (len i at : ℕ) (d : Head) → i < len → len ≤ length hs → ((get_or hs i d).start ≡ at → ⊥) → packed_from at (drop i (take len hs)) ≡ false
+pub not-packed : (hs : List Head) (i at : ℕ) (d : Head) → i < length hs → ((get_or hs i d).start ≡ at → ⊥) → packed_from at (drop i hs) ≡ false
 unfolding packed_from
-not-packed hs len i at d h n e = rw (next hs len i d h n, ne_eqb (get_or hs i d).start at e)
+not-packed hs i at d h e = rw (next hs i d h, ne_eqb (get_or hs i d).start at e)
 
-pub all-packed : (hs : List Head) (len i at : ℕ) → len ≤ i → packed_from at (drop i (take len hs)) ≡ true
+pub all-packed : (hs : List Head) (i at : ℕ) → length hs ≤ i → packed_from at (drop i hs) ≡ true
 unfolding packed_from
-all-packed hs len i at h = rw (no_more hs len i h)
+all-packed hs i at h = rw (drop_of_length-le hs h)
 
 -- new starts
 left-next : (hs : List Head) (i to : ℕ) (d x : Head) → i < to → to ≤ length hs → take (to - i) (drop i hs) ≡ get_or hs i d ∷ take (to - (i + 1)) (drop (i + 1) (set hs i x))
@@ -75,25 +67,20 @@ unfolding restarted starts_from
 restart-end hs i at = let z : i - i ≡ 0 = omega arith in rw z (take-append-drop i hs)
 
 -- entries side by side
-pub gather-turn : (s : List ℕ) (hs : List Head) (len i at : ℕ) (out : List ℕ) (d : Head) → i < len → len ≤ length hs → at ≤ length out → length (entries_at s (get_or hs i d)) ≡ (get_or hs i d).count → put_at (at + (get_or hs i d).count) (entries_in (map (msg_of s) (drop (i + 1) (take len hs)))) (put_at at (entries_at s (get_or hs i d)) out) ≡ put_at at (entries_in (map (msg_of s) (drop i (take len hs)))) out
+pub gather-turn : (s : List ℕ) (hs : List Head) (i at : ℕ) (out : List ℕ) (d : Head) → i < length hs → at ≤ length out → length (entries_at s (get_or hs i d)) ≡ (get_or hs i d).count → put_at (at + (get_or hs i d).count) (entries_in (map (msg_of s) (drop (i + 1) hs))) (put_at at (entries_at s (get_or hs i d)) out) ≡ put_at at (entries_in (map (msg_of s) (drop i hs))) out
 unfolding entries_in
-gather-turn s hs len i at out d h n k e =
-    rw (next hs len i d h n)
-    (rw e at (put-again at (entries_at s (get_or hs i d)) (entries_in (map (msg_of s) (drop (i + 1) (take len hs)))) out k))
+gather-turn s hs i at out d h k e =
+    rw (next hs i d h)
+    (rw e at (put-again at (entries_at s (get_or hs i d)) (entries_in (map (msg_of s) (drop (i + 1) hs))) out k))
 
-pub gather-end : (s : List ℕ) (hs : List Head) (len i at : ℕ) (out : List ℕ) → len ≤ i → put_at at (entries_in (map (msg_of s) (drop i (take len hs)))) out ≡ out
+pub gather-end : (s : List ℕ) (hs : List Head) (i at : ℕ) (out : List ℕ) → length hs ≤ i → put_at at (entries_in (map (msg_of s) (drop i hs))) out ≡ out
 unfolding entries_in
-gather-end s hs len i at out h = rw (no_more hs len i h) (put-nothing at out)
+gather-end s hs i at out h = rw (drop_of_length-le hs h) (put-nothing at out)
 
 pub whole-at : (s : List ℕ) (hs : List Head) (i : ℕ) (d : Head) → Whole s hs → i < length hs → length (entries_at s (get_or hs i d)) ≡ (get_or hs i d).count
 whole-at s [] i d w h = absurd (omega arith)
 whole-at s (x ∷ hs) zero d (more e w) h = e
 whole-at s (x ∷ hs) (suc i) d (more e w) h = whole-at s hs i d w (omega arith)
-
-pub whole-next : (s : List ℕ) (hs : List Head) (len i : ℕ) (d : Head) → Whole s (take len hs) → i < len → len ≤ length hs → length (entries_at s (get_or hs i d)) ≡ (get_or hs i d).count
-whole-next s hs len i d w h n =
-    let e : get_or (take len hs) i d ≡ get_or hs i d = get_or-take len hs i d h in
-    rw (← e) (whole-at s (take len hs) i d w (rw (length-take-le len hs n) h))
 
 -- the end of the head before
 pub end_before : (k : ℕ) (hs : List Head) (d : Head) → (k ≡ 0 → ⊥) → k ≤ length hs → end_of k hs ≡ (get_or hs (k - 1) d).start + (get_or hs (k - 1) d).count

@@ -7,7 +7,7 @@ ghost use Rattle.base.specs.Limits.{max_messages, max_store};
 ghost use Rattle.paxos_box.specs.Box.{is_new};
 ghost use Rattle.storage.specs.Storage.{put_at};
 ghost use Rattle.outgoing.specs.Queue.{lent, msg_of, entries_in, relaid};
-ghost use Rattle.outgoing.specs.Perform.{sources, done_to, joined, on_place, perform_one, perform_all, performed, items_of, carried, Fits};
+ghost use Rattle.outgoing.specs.Perform.{sources, done_to, joined, on_place, entries_of, perform_all, performed, items_of, carried, Fits};
 ghost use Rattle.outgoing.specs.Packing.{packed_from, restarted, end_of, join_end, joined_row, raised_row, row_of, Packed, Whole, Ready};
 
 use base::MAX_STORE;
@@ -21,38 +21,29 @@ fn is_packed(row: Row, len: usize) -> bool
     requires heads_bound { carried (take len row.heads) ≤ max_store }
     ensures { result ≡ packed_from 0 (take len row.heads) }
 {
-    let heads = row.heads;
-    let mut at: usize = 0;
-    let mut i: usize = 0;
-    while i < len {
-        let h = heads[i];
+    let mut at = 0;
+    for h in &row.heads[..len] {
         if h.start != at {
             return false;
         }
-        at = at + h.count;
-        i += 1;
+        at += h.count;
     }
     true
 }
 
 // The heads from one position up to another start where packing puts them, the first of them at a place.
-fn restart(row: Row, from: usize, to: usize, at: usize) -> Row
+fn restart(mut row: Row, from: usize, to: usize, at: usize) -> Row
     requires to_le_max_messages { to ≤ max_messages }
     requires from_le_to { from ≤ to }
     requires heads_bound { at + carried (take (to - from) (drop from row.heads)) ≤ max_store }
     ensures { result ≡ row_of (restarted from to at row.heads) }
 {
-    let mut heads = row.heads;
     let mut place = at;
-    let mut i = from;
-    while i < to {
-        let mut h = heads[i];
-        h.start = place;
-        heads[i] = h;
-        place = place + h.count;
-        i += 1;
+    for i in from..to {
+        row.heads[i].start = place;
+        place += row.heads[i].count;
     }
-    Row { heads }
+    row
 }
 
 // Where the entries of the first k heads end, in a packed row.
@@ -64,9 +55,8 @@ fn end_of(row: Row, k: usize) -> usize
     if k == 0 {
         return 0;
     }
-    let at = k - 1;
-    let h = row.heads[at];
-    h.start + h.count
+    let last = row.heads[k - 1];
+    last.start + last.count
 }
 
 // The entries of the first heads, one after the other, over the start of another list.
@@ -78,16 +68,10 @@ fn gather(out: &mut [u64], store: &[u64], row: Row, len: usize)
     requires whole { Whole store.now (take len row.heads) }
     ensures { out.new ≡ over (entries_in (map (msg_of store.now) (take len row.heads))) out.old }
 {
-    let heads = row.heads;
-    let mut at: usize = 0;
-    let mut i: usize = 0;
-    while i < len {
-        let h = heads[i];
-        let start = h.start;
-        let n = h.count;
-        write_suffix(&mut out[at..], part(store, start, n));
-        at = at + n;
-        i += 1;
+    let mut at = 0;
+    for h in &row.heads[..len] {
+        write_suffix(&mut out[at..], part(store, h.start, h.count));
+        at += h.count;
     }
 }
 
@@ -116,9 +100,7 @@ fn move_up(store: &mut [u64], from: usize, to: usize, by: usize)
     requires by_in_bounds { to + by ≤ length store.old }
     ensures { store.new ≡ put_at (from + by) (take (to - from) (drop from store.old)) store.old }
 {
-    let mut i = to;
-    while from < i {
-        i -= 1;
+    for i in (from..to).rev() {
         store[i + by] = store[i];
     }
 }
@@ -134,17 +116,8 @@ fn insert(store: &mut [u64], at: usize, used: usize, entries: &[u64])
     write_suffix(&mut store[at..], entries);
 }
 
-fn with_head(row: Row, at: usize, h: Head) -> Row
-    requires { at < max_messages }
-    ensures { result ≡ row_of (set row.heads at h) }
-{
-    let mut heads = row.heads;
-    heads[at] = h;
-    Row { heads }
-}
-
 // A new message: its entries behind the last used cell, its head behind the last one.
-fn push(row: Row, store: &mut [u64], len: usize, to: u64, msg: PaxosMsg, entries: &[u64]) -> Row
+fn push(mut row: Row, store: &mut [u64], len: usize, to: u64, msg: PaxosMsg, entries: &[u64]) -> Row
     requires packed { Packed len row.heads store.old }
     requires len_lt_max_messages { len < max_messages }
     requires store_len_bound { length store.old ≤ max_store }
@@ -153,34 +126,30 @@ fn push(row: Row, store: &mut [u64], len: usize, to: u64, msg: PaxosMsg, entries
 {
     let start = end_of(row, len);
     write_suffix(&mut store[start..], entries);
-    let h = Head {
+    row.heads[len] = Head {
         to,
         msg,
         start,
         count: entries.len(),
     };
-    with_head(row, len, h)
+    row
 }
 
 // The head at a position gets the decided index and counts the entries that join; the heads behind it start later.
 #[tactic(auto, unfolding(crate::specs::Packing::joined_row))]
-fn join_head(row: Row, len: usize, j: Join, n: usize) -> Row
+fn join_head(mut row: Row, len: usize, j: Join, n: usize) -> Row
     requires len_le_max_messages { len ≤ max_messages }
     requires at_lt_len { j.at < len }
     requires row_bound { join_end len j n row ≤ max_store }
     ensures { result ≡ joined_row len j n row }
 {
-    let at = j.at;
-    let h = row.heads[at];
-    let msg = h.msg;
-    let end = h.start + h.count + n;
-    let joined = Head {
-        to: h.to,
-        msg: msg.with_decided(j.decided_idx),
-        start: h.start,
+    let h = row.heads[j.at];
+    row.heads[j.at] = Head {
+        msg: h.msg.with_decided(j.decided_idx),
         count: h.count + n,
+        ..h
     };
-    restart(with_head(row, at, joined), at + 1, len, end)
+    restart(row, j.at + 1, len, h.start + h.count + n)
 }
 
 // Entries join a message that waits, behind its own; what lies behind them in the store moves up.
@@ -191,36 +160,25 @@ fn join(row: Row, store: &mut [u64], len: usize, j: Join, entries: &[u64]) -> Ro
     requires entries_in_bounds { carried (take len row.heads) + length entries.now ≤ length store.old }
     ensures { lent result store.new ≡ relaid len (on_place j.at (joined j.decided_idx entries.now)) (lent row store.old) }
 {
-    let at = j.at;
-    if len <= at {
+    if len <= j.at {
         return row;
     }
-    let n = entries.len();
-    let end = end_of(row, at + 1);
+    let end = end_of(row, j.at + 1);
     let used = end_of(row, len);
     insert(store, end, used, entries);
-    join_head(row, len, j, n)
+    join_head(row, len, j, entries.len())
 }
 
 // An Accepted that waits gets another index.
 #[tactic(auto, unfolding(crate::specs::Packing::raised_row))]
-fn raise(row: Row, len: usize, r: Raise) -> Row
+fn raise(mut row: Row, len: usize, r: Raise) -> Row
     requires { len ≤ max_messages }
     ensures { result ≡ raised_row len r row }
 {
-    let at = r.at;
-    if len <= at {
-        return row;
+    if r.at < len {
+        row.heads[r.at].msg = row.heads[r.at].msg.with_accepted(r.accepted_idx);
     }
-    let h = row.heads[at];
-    let msg = h.msg;
-    let raised = Head {
-        to: h.to,
-        msg: msg.with_accepted(r.accepted_idx),
-        start: h.start,
-        count: h.count,
-    };
-    with_head(row, at, raised)
+    row
 }
 
 // How long the queue is after one planned thing.
@@ -230,8 +188,7 @@ fn length_after(what: Sent, len: usize) -> usize
 {
     match what {
         Sent::New(_) => len + 1,
-        Sent::Join(_) => len,
-        Sent::Raise(_) => len,
+        _ => len,
     }
 }
 
@@ -243,69 +200,49 @@ fn perform_one(row: Row, store: &mut [u64], len: usize, m: Send, entries: &[u64]
     requires entries_in_bounds { carried (take len row.heads) + length entries.now ≤ length store.old }
     ensures { lent result store.new ≡ relaid len (done_to m.what m.to entries.now) (lent row store.old) }
 {
-    let what = m.what;
-    match what {
+    match m.what {
         Sent::New(msg) => push(row, store, len, m.to, msg, entries),
         Sent::Join(j) => join(row, store, len, j, entries),
         Sent::Raise(r) => raise(row, len, r),
     }
 }
 
-// The same, with its entries from their source, or as many as that has.
-fn perform_from(
-    row: Row,
-    store: &mut [u64],
-    len: usize,
-    m: Send,
-    log: &[u64],
-    given: &[u64],
-    buffered: &[u64],
-    cached: &[u64],
-) -> Row
-    requires packed { Packed len row.heads store.old }
-    requires what_bound { len + is_new m.what ≤ max_messages }
-    requires store_len_bound { length store.old ≤ max_store }
-    requires count_in_bounds { carried (take len row.heads) + m.count ≤ length store.old }
-    ensures { lent result store.new ≡ relaid len (perform_one (sources log.now given.now buffered.now cached.now) m) (lent row store.old) }
-{
-    let source = m.source;
-    let count = m.count;
-    match source {
-        Source::Nothing => perform_one(row, store, len, m, first(log, 0)),
-        Source::Log(from) => perform_one(row, store, len, m, part(log, from, count)),
-        Source::Given => perform_one(row, store, len, m, first(given, count)),
-        Source::Buffered => perform_one(row, store, len, m, first(buffered, count)),
-        Source::Cached => perform_one(row, store, len, m, first(cached, count)),
+// Where the entries of what is sent come from.
+#[derive(Clone, Copy)]
+struct Sources<'a> {
+    log: &'a [u64],
+    given: &'a [u64],
+    buffered: &'a [u64],
+    cached: &'a [u64],
+}
+
+impl<'a> Sources<'a> {
+    // The entries of a planned thing, or as many as its source has.
+    fn entries_of(&self, m: Send) -> &'a [u64]
+        ensures { result.now ≡ entries_of (sources self.now.log.now self.now.given.now self.now.buffered.now self.now.cached.now) m }
+    {
+        match m.source {
+            Source::Nothing => &[],
+            Source::Log(from) => part(self.log, from, m.count),
+            Source::Given => first(self.given, m.count),
+            Source::Buffered => first(self.buffered, m.count),
+            Source::Cached => first(self.cached, m.count),
+        }
     }
 }
 
 // All of them, in their order.
 #[tactic(auto, unfolding(crate::specs::Perform::perform_all))]
-fn perform_all(
-    row: Row,
-    store: &mut [u64],
-    len: usize,
-    sends: Sends,
-    log: &[u64],
-    given: &[u64],
-    buffered: &[u64],
-    cached: &[u64],
-) -> Row
+fn perform_all(row: Row, store: &mut [u64], len: usize, sends: Sends, from: &Sources) -> Row
     requires count_bound { sends.count ≤ 8 }
     requires ready { Ready len (items_of sends) row.heads store.old }
-    ensures { lent result store.new ≡ relaid len (perform_all (sources log.now given.now buffered.now cached.now) (items_of sends)) (lent row store.old) }
+    ensures { lent result store.new ≡ relaid len (perform_all (sources from.now.log.now from.now.given.now from.now.buffered.now from.now.cached.now) (items_of sends)) (lent row store.old) }
 {
-    let items = sends.items;
-    let count = sends.count;
     let mut out = row;
     let mut n = len;
-    let mut i: usize = 0;
-    while i < count {
-        let m = items[i];
-        let what = m.what;
-        out = perform_from(out, store, n, m, log, given, buffered, cached);
-        n = length_after(what, n);
-        i += 1;
+    for m in &sends.items[..sends.count] {
+        out = perform_one(out, store, n, *m, from.entries_of(*m));
+        n = length_after(m.what, n);
     }
     out
 }
@@ -330,5 +267,11 @@ pub fn perform(
         return row;
     }
     let packed = pack(row, store, len);
-    perform_all(packed, store, len, sends, log, given, &buffered, cached)
+    let from = Sources {
+        log,
+        given,
+        buffered: &buffered,
+        cached,
+    };
+    perform_all(packed, store, len, sends, &from)
 }

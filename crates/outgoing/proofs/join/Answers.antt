@@ -11,8 +11,8 @@ use Prim.Native.Nat.{◌+◌}
 use borrow.Author.Rules.{rules}
 use Rattle.outgoing.proofs.join.Goals as goal
 
-pub returns-then-len-at : goal.returns-then-len-at
-returns-then-len-at c = no_place c.args.len (lent c.args.row c.args.store.now) c.args.j.at (joined c.args.j.decided_idx c.args.entries.now) c.requires.packed c.if-len-at.true
+pub returns-then-len-j : goal.returns-then-len-j
+returns-then-len-j c = no_place c.args.len (lent c.args.row c.args.store.now) c.args.j.at (joined c.args.j.decided_idx c.args.entries.now) c.requires.packed c.if-len-j.true
 
 pub end_of-end-requires-clause-heads_bound : goal.end_of-end-requires-clause-heads_bound
 end_of-end-requires-clause-heads_bound c = rw add-one (omega (arith, end-there c.args.len c.args.row c.args.store.now c.requires.packed c.args.j.at no_head (search rules), c.requires.packed.within))

@@ -12,6 +12,3 @@ use Rattle.outgoing.proofs.move_up.Given as goal
 
 abbrev pub invariant-loop-i : goal.invariant-loop-i
 invariant-loop-i l = (l.from ≤ l.i) × (l.i ≤ l.to) × (l.to + l.by ≤ length l.initial.store) × (length l.store ≡ length l.initial.store) × (l.store ≡ put_at (l.i + l.by) (between l.i l.to l.initial.store) l.initial.store)
-
-abbrev pub decreases-loop-i : goal.decreases-loop-i
-decreases-loop-i l = l.i - l.from

@@ -1,35 +1,44 @@
 -- `outgoing::perform_all` meets its contract: what is to come out is what the things left make of the queue as it lies.
-use Rattle.outgoing.proofs.Steps.{unplanned, ready-next, step-turn}
-use Rattle.outgoing.proofs.Turns.{next, no_more}
+use Rattle.std.proofs.Common.{◌≡◌, ◌+◌, [], refl, sym, ap, ◌∙◌, arith, rules}
+use lib.ListN.{take, drop, get_or, drop_of_length-le}
+use Rattle.outgoing.specs.Perform.{sources, perform_all, items_of}
+use Rattle.outgoing.specs.Queue.{lent, queue_of}
 use Rattle.outgoing.proofs.Laid.{laid_same}
-use Rattle.outgoing.specs.Packing.{Ready}
-use Rattle.outgoing.specs.Perform.{sources, perform_all}
-use Rattle.outgoing.specs.Queue.{lent, queue_of, laid}
-use Rattle.base.proofs.Lists.{length-mapped}
-use lib.ListN.{length, take, drop, get_or}
-use borrow.Author.Rules.{rules}
-use native.Mathlib.Omega.{arith}
-use mathlib.Core.Path.{◌≡◌, refl, sym, ◌∙◌}
-use Prim.Native.Nat.{◌+◌, ◌-◌, ◌≤◌}
+use Rattle.outgoing.proofs.Steps.{unplanned, few, ready-next, step-turn, with-entries}
+use Rattle.outgoing.proofs.Turns.{next}
 use Rattle.outgoing.proofs.perform_all.Goals as goal
 
-pub loop-i-preserved : goal.loop-i-preserved
-loop-i-preserved c = let f = sources c.args.log.now c.args.given.now c.args.buffered.now c.args.cached.now in
-    let n = next c.args.sends.items c.args.sends.count c.loop-i.i unplanned (search rules) (search rules) in
-    let r = rw n at c.loop-i.invariant.5 in
-    let t = step-turn f (get_or c.args.sends.items c.loop-i.i unplanned) (drop (c.loop-i.i + 1) (take c.args.sends.count c.args.sends.items)) c.loop-i.n (lent c.loop-i.out c.loop-i.store) (lent c.perform_from-out.result c.perform_from-out.new.store) r c.loop-i.invariant.3 c.perform_from-out.ensures in
-    (search rules, search rules, search rules, t.heads, t.cells ∙ c.loop-i.invariant.4, rw c.length_after-n.ensures t.ready, rw c.length_after-n.ensures (t.same ∙ (rw n at c.loop-i.invariant.6)))
+pub perform_one-out-requires-clause-what_bound : goal.perform_one-out-requires-clause-what_bound
+perform_one-out-requires-clause-what_bound c =
+    let ms = items_of c.args.sends in
+    let r = rw (next ms c.loop-m.m-index unplanned (search rules)) at c.loop-m.invariant.2 in
+    (ready-next (get_or ms c.loop-m.m-index unplanned) _ c.loop-m.n c.loop-m.out.heads c.loop-m.store r).1.0
+
+pub perform_one-out-requires-clause-entries_in_bounds : goal.perform_one-out-requires-clause-entries_in_bounds
+perform_one-out-requires-clause-entries_in_bounds c =
+    let ms = items_of c.args.sends in
+    let f = sources c.args.from.now.log.now c.args.from.now.given.now c.args.from.now.buffered.now c.args.from.now.cached.now in
+    let m = get_or ms c.loop-m.m-index unplanned in
+    let r = rw (next ms c.loop-m.m-index unplanned (search rules)) at c.loop-m.invariant.2 in
+    let n = (ready-next m _ c.loop-m.n c.loop-m.out.heads c.loop-m.store r).1.1.1 in
+    rw c.entries_of.ensures (omega (arith, n, few f m))
+
+pub loop-m-preserved : goal.loop-m-preserved
+loop-m-preserved c =
+    let ms = items_of c.args.sends in
+    let f = sources c.args.from.now.log.now c.args.from.now.given.now c.args.from.now.buffered.now c.args.from.now.cached.now in
+    let m = get_or ms c.loop-m.m-index unplanned in
+    let w = lent c.loop-m.out c.loop-m.store in
+    let v = lent c.perform_one-out.result c.perform_one-out.new.store in
+    let n = next ms c.loop-m.m-index unplanned (search rules) in
+    let r = rw n at c.loop-m.invariant.2 in
+    let done = with-entries f m c.entries_of.result.now (queue_of c.loop-m.n w) w v c.entries_of.ensures c.perform_one-out.ensures in
+    let t = step-turn f m (drop (c.loop-m.m-index + 1) ms) c.loop-m.n w v r c.loop-m.invariant.0 done in
+    (t.heads, t.cells ∙ c.loop-m.invariant.1, rw c.length_after-n.ensures t.ready, rw c.length_after-n.ensures (t.same ∙ (rw n at c.loop-m.invariant.3)))
 
 pub returns : goal.returns
 unfolding perform_all
-returns c = sym (laid_same c.loop-i.n (lent c.loop-i.out c.loop-i.store) c.loop-i.invariant.5.packed) ∙ (rw (no_more c.args.sends.items c.args.sends.count c.loop-i.i (search rules)) at c.loop-i.invariant.6)
-
-pub perform_from-out-requires-clause-what_bound : goal.perform_from-out-requires-clause-what_bound
-perform_from-out-requires-clause-what_bound c =
-    let r = rw (next c.args.sends.items c.args.sends.count c.loop-i.i unplanned (search rules) (search rules)) at c.loop-i.invariant.5 in
-    (ready-next (get_or c.args.sends.items c.loop-i.i unplanned) _ c.loop-i.n c.loop-i.out.heads c.loop-i.store r).1.0
-
-pub perform_from-out-requires-clause-count_in_bounds : goal.perform_from-out-requires-clause-count_in_bounds
-perform_from-out-requires-clause-count_in_bounds c =
-    let r = rw (next c.args.sends.items c.args.sends.count c.loop-i.i unplanned (search rules) (search rules)) at c.loop-i.invariant.5 in
-    (ready-next (get_or c.args.sends.items c.loop-i.i unplanned) _ c.loop-i.n c.loop-i.out.heads c.loop-i.store r).1.1.1
+returns c =
+    let w = lent c.loop-m.out c.loop-m.store in
+    let none : drop c.loop-m.m-index (items_of c.args.sends) ≡ [] = drop_of_length-le (items_of c.args.sends) (omega arith) in
+    sym (laid_same c.loop-m.n w c.loop-m.invariant.2.packed) ∙ (rw none at c.loop-m.invariant.3)

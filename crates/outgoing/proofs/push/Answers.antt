@@ -25,7 +25,7 @@ pub returns : goal.returns
 returns c = let u = carried (take c.args.len c.args.row.heads) in
     let n : length c.args.row.heads ≡ 64 = search (rules, length-mapped) in
     let e : c.end_of-start.result ≡ u = c.end_of-start.ensures ∙ end-packed c.args.len c.args.row c.args.store.now c.requires.packed in
-    rw (c.with_head.ensures, c.write_suffix.ensures, e)
+    rw (c.write_suffix.ensures, e)
     (lent_same refl (put-part u c.args.entries.now c.args.store.now c.requires.packed.within) ∙ sym (push-laid c.args.len c.args.row c.args.store.now (record { to = c.args.to; msg = c.args.msg; entries = c.args.entries.now }) c.requires.packed (search rules)))
 
 pub slice_bounds-write_suffix-start : goal.slice_bounds-write_suffix-start
