@@ -10,7 +10,6 @@ use Rattle.storage.proofs.Laid.{length_over, at_most}
 use Rattle.messages.specs.declared.Head.{Head}
 use Rattle.messages.specs.declared.Row.{Row}
 use Rattle.messages.specs.declared.PaxosMsg.TheVariants.{PrepareReq}
-use Rattle.paxos_box.specs.declared.Source.{Source}
 use Rattle.paxos_box.specs.declared.Source.TheVariants as source
 use Rattle.paxos_box.specs.declared.Sent.{Sent}
 use Rattle.paxos_box.specs.declared.Sent.TheVariants.{New, Join, Raise}
@@ -168,6 +167,12 @@ module _ (len : ℕ) (s : Sends) (row : Row) (store : List ℕ) (p : Fits len s 
       let k : length q ≡ len = length-queue len (lent row store) fits_below in
       let r = laid-ready (items_of s) q (lent row store) h (omega (arith, p.size)) (omega (arith, k, p.messages)) (omega (arith, fits-entries, p.entries, p.size)) in
       rw e (rw k at r)
+
+  pub fits-places : (v : Lent) → v ≡ laid (queue_of len (lent row store)) (lent row store) → length v.row.heads ≡ max_messages
+  fits-places v e =
+      let q = queue_of len (lent row store) in
+      let k : length q ≡ len = length-queue len (lent row store) fits_below in
+      rw e ((laid-sizes q (lent row store) (omega (arith, k, h, fits_below)) (omega (arith, fits-entries, p.entries, p.size))).0 ∙ h)
 
 -- packed first, or laid down at the end alone
 pub pack-then : (f : Sources) (ms : List Send) (len : ℕ) (w v : Lent) → len ≤ length w.row.heads → v ≡ laid (queue_of len w) w → laid (perform_all f ms (queue_of len v)) v ≡ laid (perform_all f ms (queue_of len w)) w

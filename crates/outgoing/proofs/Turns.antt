@@ -1,30 +1,24 @@
 -- One turn of each loop over the heads, in terms of the heads that are left.
 use Prim.Native.Nat.{ℕ, zero, suc, ◌+◌, ◌-◌, ◌≤◌, ◌<◌}
-use mathlib.Core.Path.{◌≡◌, refl}
+use mathlib.Core.Path.{◌≡◌}
 use mathlib.Core.Bool.{true, false}
 use mathlib.Core.List.{List, [], ◌∷◌, map}
 use native.Mathlib.Omega.{arith}
 use native.Mathlib.Numerals.{add-one}
-use lib.ListN.{length, get_or, set, take, drop, length-take, take-append-drop, drop_of_length-le}
-use lib.Seq.{drop-cons, get_or-take, length-take-le, append_snoc, take-suc-set, drop-set-lt}
+use lib.ListN.{length, get_or, set, take, drop, take-append-drop, drop_of_length-le}
+use lib.Seq.{drop-cons, append_snoc, take-suc-set, drop-set-lt}
 use borrow.Author.Tests.{eq-eqb, ne_eqb}
 use Rattle.storage.specs.Storage.{put_at}
 use Rattle.storage.proofs.Laws.{put-again, put-nothing}
 use Rattle.messages.specs.declared.Head.{Head}
 use Rattle.messages.specs.declared.PaxosMsg.TheVariants.{PrepareReq}
-use Rattle.messages.specs.Messages.{no_head}
 use Rattle.outgoing.specs.Queue.{msg_of, entries_at, entries_in}
 use Rattle.outgoing.specs.Perform.{carried}
-use Rattle.outgoing.specs.Packing.{packed_from, start_at, starts_from, restarted, end_of, Whole, more}
+use Rattle.outgoing.specs.Packing.{packed_from, start_at, starts_from, restarted, Whole, more}
 
 -- what the code's reading gives past the end of a row
 abbrev pub unset : Head
 unset = record { to = 0; msg = PrepareReq (record { n = record { n = 0; priority = 0; pid = 0 } }); start = 0; count = 0 }
-
-pub any-default : {A : Type 0} (l : List A) (i : ℕ) (d e : A) → i < length l → get_or l i d ≡ get_or l i e
-any-default [] i d e h = absurd (omega arith)
-any-default (x ∷ l) zero d e h = refl
-any-default (x ∷ l) (suc i) d e h = any-default l i d e (omega arith)
 
 -- the next of those that are left, and none left
 pub next : {A : Type 0} (l : List A) (i : ℕ) (d : A) → i < length l → drop i l ≡ get_or l i d ∷ drop (i + 1) l
@@ -81,10 +75,3 @@ pub whole-at : (s : List ℕ) (hs : List Head) (i : ℕ) (d : Head) → Whole s 
 whole-at s [] i d w h = absurd (omega arith)
 whole-at s (x ∷ hs) zero d (more e w) h = e
 whole-at s (x ∷ hs) (suc i) d (more e w) h = whole-at s hs i d w (omega arith)
-
--- the end of the head before
-pub end_before : (k : ℕ) (hs : List Head) (d : Head) → (k ≡ 0 → ⊥) → k ≤ length hs → end_of k hs ≡ (get_or hs (k - 1) d).start + (get_or hs (k - 1) d).count
-end_before zero hs d h n = absurd (h refl)
-end_before (suc k) hs d h n =
-    let z : suc k - 1 ≡ k = omega arith in
-    rw (z, any-default hs k no_head d (omega arith))

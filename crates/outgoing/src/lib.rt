@@ -16,10 +16,10 @@ use paxos_box::{Join, Raise, Send, Sends, Sent, Source};
 use storage::{first, part, write_suffix};
 
 // Whether the entries of each head follow those of the one before it, from place 0.
-fn is_packed(row: Row, len: usize) -> bool
+fn is_packed(row: &Row, len: usize) -> bool
     requires len_le_max_messages { len ≤ max_messages }
-    requires heads_bound { carried (take len row.heads) ≤ max_store }
-    ensures { result ≡ packed_from 0 (take len row.heads) }
+    requires heads_bound { carried (take len row.now.heads) ≤ max_store }
+    ensures { result ≡ packed_from 0 (take len row.now.heads) }
 {
     let mut at = 0;
     for h in &row.heads[..len] {
@@ -32,25 +32,25 @@ fn is_packed(row: Row, len: usize) -> bool
 }
 
 // The heads from one position up to another start where packing puts them, the first of them at a place.
-fn restart(mut row: Row, from: usize, to: usize, at: usize) -> Row
+fn restart(row: &mut Row, from: usize, to: usize, at: usize)
+    requires places { length row.old.heads ≡ max_messages }
     requires to_le_max_messages { to ≤ max_messages }
     requires from_le_to { from ≤ to }
-    requires heads_bound { at + carried (take (to - from) (drop from row.heads)) ≤ max_store }
-    ensures { result ≡ row_of (restarted from to at row.heads) }
+    requires heads_bound { at + carried (take (to - from) (drop from row.old.heads)) ≤ max_store }
+    ensures { row.new ≡ row_of (restarted from to at row.old.heads) }
 {
     let mut place = at;
     for i in from..to {
         row.heads[i].start = place;
         place += row.heads[i].count;
     }
-    row
 }
 
 // Where the entries of the first k heads end, in a packed row.
-fn end_of(row: Row, k: usize) -> usize
+fn end_of(row: &Row, k: usize) -> usize
     requires k_le_max_messages { k ≤ max_messages }
-    requires heads_bound { end_of k row.heads ≤ max_store }
-    ensures { result ≡ end_of k row.heads }
+    requires heads_bound { end_of k row.now.heads ≤ max_store }
+    ensures { result ≡ end_of k row.now.heads }
 {
     if k == 0 {
         return 0;
@@ -61,12 +61,12 @@ fn end_of(row: Row, k: usize) -> usize
 
 // The entries of the first heads, one after the other, over the start of another list.
 #[tactic(auto, unfolding(storage::specs::Storage::put_at))]
-fn gather(out: &mut [u64], store: &[u64], row: Row, len: usize)
+fn gather(out: &mut [u64], store: &[u64], row: &Row, len: usize)
     requires len_le_max_messages { len ≤ max_messages }
-    requires heads_in_bounds { carried (take len row.heads) ≤ length out.old }
+    requires heads_in_bounds { carried (take len row.now.heads) ≤ length out.old }
     requires out_len_bound { length out.old ≤ max_store }
-    requires whole { Whole store.now (take len row.heads) }
-    ensures { out.new ≡ over (entries_in (map (msg_of store.now) (take len row.heads))) out.old }
+    requires whole { Whole store.now (take len row.now.heads) }
+    ensures { out.new ≡ over (entries_in (map (msg_of store.now) (take len row.now.heads))) out.old }
 {
     let mut at = 0;
     for h in &row.heads[..len] {
@@ -76,22 +76,22 @@ fn gather(out: &mut [u64], store: &[u64], row: Row, len: usize)
 }
 
 // The queue packed. In the usual case it is, and nothing moves.
-fn pack(row: Row, store: &mut [u64], len: usize) -> Row
+fn pack(row: &mut Row, store: &mut [u64], len: usize)
+    requires places { length row.old.heads ≡ max_messages }
     requires len_le_max_messages { len ≤ max_messages }
     requires store_len { length store.old ≡ max_store }
-    requires heads_bound { carried (take len row.heads) ≤ max_store }
-    requires whole { Whole store.old (take len row.heads) }
-    ensures { lent result store.new ≡ relaid len (λ q. q) (lent row store.old) }
+    requires heads_bound { carried (take len row.old.heads) ≤ max_store }
+    requires whole { Whole store.old (take len row.old.heads) }
+    ensures { lent row.new store.new ≡ relaid len (λ q. q) (lent row.old store.old) }
 {
     if is_packed(row, len) {
-        return row;
+        return;
     }
-    let packed = restart(row, 0, len, 0);
-    let used = end_of(packed, len);
     let mut entries = [0u64; MAX_STORE];
     gather(&mut entries, store, row, len);
+    restart(row, 0, len, 0);
+    let used = end_of(row, len);
     write_suffix(store, first(&entries, used));
-    packed
 }
 
 // The cells from one place up to another move up.
@@ -117,12 +117,12 @@ fn insert(store: &mut [u64], at: usize, used: usize, entries: &[u64])
 }
 
 // A new message: its entries behind the last used cell, its head behind the last one.
-fn push(mut row: Row, store: &mut [u64], len: usize, to: u64, msg: PaxosMsg, entries: &[u64]) -> Row
-    requires packed { Packed len row.heads store.old }
+fn push(row: &mut Row, store: &mut [u64], len: usize, to: u64, msg: PaxosMsg, entries: &[u64])
+    requires packed { Packed len row.old.heads store.old }
     requires len_lt_max_messages { len < max_messages }
     requires store_len_bound { length store.old ≤ max_store }
-    requires entries_in_bounds { carried (take len row.heads) + length entries.now ≤ length store.old }
-    ensures { lent result store.new ≡ relaid len (done_to (Sent.New msg) to entries.now) (lent row store.old) }
+    requires entries_in_bounds { carried (take len row.old.heads) + length entries.now ≤ length store.old }
+    ensures { lent row.new store.new ≡ relaid len (done_to (Sent.New msg) to entries.now) (lent row.old store.old) }
 {
     let start = end_of(row, len);
     write_suffix(&mut store[start..], entries);
@@ -132,16 +132,15 @@ fn push(mut row: Row, store: &mut [u64], len: usize, to: u64, msg: PaxosMsg, ent
         start,
         count: entries.len(),
     };
-    row
 }
 
 // The head at a position gets the decided index and counts the entries that join; the heads behind it start later.
 #[tactic(auto, unfolding(crate::specs::Packing::joined_row))]
-fn join_head(mut row: Row, len: usize, j: Join, n: usize) -> Row
+fn join_head(row: &mut Row, len: usize, j: Join, n: usize)
     requires len_le_max_messages { len ≤ max_messages }
     requires at_lt_len { j.at < len }
-    requires row_bound { join_end len j n row ≤ max_store }
-    ensures { result ≡ joined_row len j n row }
+    requires row_bound { join_end len j n row.old ≤ max_store }
+    ensures { row.new ≡ joined_row len j n row.old }
 {
     let h = row.heads[j.at];
     row.heads[j.at] = Head {
@@ -149,36 +148,35 @@ fn join_head(mut row: Row, len: usize, j: Join, n: usize) -> Row
         count: h.count + n,
         ..h
     };
-    restart(row, j.at + 1, len, h.start + h.count + n)
+    restart(row, j.at + 1, len, h.start + h.count + n);
 }
 
 // Entries join a message that waits, behind its own; what lies behind them in the store moves up.
-fn join(row: Row, store: &mut [u64], len: usize, j: Join, entries: &[u64]) -> Row
-    requires packed { Packed len row.heads store.old }
+fn join(row: &mut Row, store: &mut [u64], len: usize, j: Join, entries: &[u64])
+    requires packed { Packed len row.old.heads store.old }
     requires len_le_max_messages { len ≤ max_messages }
     requires store_len_bound { length store.old ≤ max_store }
-    requires entries_in_bounds { carried (take len row.heads) + length entries.now ≤ length store.old }
-    ensures { lent result store.new ≡ relaid len (on_place j.at (joined j.decided_idx entries.now)) (lent row store.old) }
+    requires entries_in_bounds { carried (take len row.old.heads) + length entries.now ≤ length store.old }
+    ensures { lent row.new store.new ≡ relaid len (on_place j.at (joined j.decided_idx entries.now)) (lent row.old store.old) }
 {
     if len <= j.at {
-        return row;
+        return;
     }
     let end = end_of(row, j.at + 1);
     let used = end_of(row, len);
     insert(store, end, used, entries);
-    join_head(row, len, j, entries.len())
+    join_head(row, len, j, entries.len());
 }
 
 // An Accepted that waits gets another index.
 #[tactic(auto, unfolding(crate::specs::Packing::raised_row))]
-fn raise(mut row: Row, len: usize, r: Raise) -> Row
+fn raise(row: &mut Row, len: usize, r: Raise)
     requires { len ≤ max_messages }
-    ensures { result ≡ raised_row len r row }
+    ensures { row.new ≡ raised_row len r row.old }
 {
     if r.at < len {
         row.heads[r.at].msg = row.heads[r.at].msg.with_accepted(r.accepted_idx);
     }
-    row
 }
 
 // How long the queue is after one planned thing.
@@ -193,12 +191,12 @@ fn length_after(what: Sent, len: usize) -> usize
 }
 
 // One planned thing is done to a packed queue.
-fn perform_one(row: Row, store: &mut [u64], len: usize, m: Send, entries: &[u64]) -> Row
-    requires packed { Packed len row.heads store.old }
+fn perform_one(row: &mut Row, store: &mut [u64], len: usize, m: Send, entries: &[u64])
+    requires packed { Packed len row.old.heads store.old }
     requires what_bound { len + is_new m.what ≤ max_messages }
     requires store_len_bound { length store.old ≤ max_store }
-    requires entries_in_bounds { carried (take len row.heads) + length entries.now ≤ length store.old }
-    ensures { lent result store.new ≡ relaid len (done_to m.what m.to entries.now) (lent row store.old) }
+    requires entries_in_bounds { carried (take len row.old.heads) + length entries.now ≤ length store.old }
+    ensures { lent row.new store.new ≡ relaid len (done_to m.what m.to entries.now) (lent row.old store.old) }
 {
     match m.what {
         Sent::New(msg) => push(row, store, len, m.to, msg, entries),
@@ -233,25 +231,24 @@ impl<'a> Sources<'a> {
 
 // All of them, in their order.
 #[tactic(auto, unfolding(crate::specs::Perform::perform_all))]
-fn perform_all(row: Row, store: &mut [u64], len: usize, sends: Sends, from: &Sources) -> Row
+fn perform_all(row: &mut Row, store: &mut [u64], len: usize, sends: Sends, from: &Sources)
+    requires places { length row.old.heads ≡ max_messages }
     requires count_bound { sends.count ≤ 8 }
-    requires ready { Ready len (items_of sends) row.heads store.old }
-    ensures { lent result store.new ≡ relaid len (perform_all (sources from.now.log.now from.now.given.now from.now.buffered.now from.now.cached.now) (items_of sends)) (lent row store.old) }
+    requires ready { Ready len (items_of sends) row.old.heads store.old }
+    ensures { lent row.new store.new ≡ relaid len (perform_all (sources from.now.log.now from.now.given.now from.now.buffered.now from.now.cached.now) (items_of sends)) (lent row.old store.old) }
 {
-    let mut out = row;
     let mut n = len;
     for m in &sends.items[..sends.count] {
-        out = perform_one(out, store, n, *m, from.entries_of(*m));
+        perform_one(row, store, n, *m, from.entries_of(*m));
         n = length_after(m.what, n);
     }
-    out
 }
 
 // What a plan sends is done to the queue, of which the first `len` heads wait. The log and the cached buffer are as the step leaves them, the
 // buffered proposals as found. The queue's new length is `len + sends.messages`.
 #[tactic(auto, unfolding(crate::specs::Perform::performed))]
 pub fn perform(
-    row: Row,
+    mut row: Row,
     store: &mut [u64],
     len: usize,
     sends: Sends,
@@ -266,12 +263,13 @@ pub fn perform(
     if sends.count == 0 {
         return row;
     }
-    let packed = pack(row, store, len);
+    pack(&mut row, store, len);
     let from = Sources {
         log,
         given,
         buffered: &buffered,
         cached,
     };
-    perform_all(packed, store, len, sends, &from)
+    perform_all(&mut row, store, len, sends, &from);
+    row
 }

@@ -8,17 +8,17 @@ use Rattle.outgoing.proofs.gather.Goals as goal
 
 pub write_suffix-requires : goal.write_suffix-requires
 write_suffix-requires c =
-    let hs = take c.args.len c.args.row.heads in
+    let hs = take c.args.len c.args.row.now.heads in
     let h = get_or hs c.loop-h.h-index unset in
     let n = carried-next hs c.loop-h.h-index unset (search rules) in
     rw (whole_part c.loop-h.out c.loop-h.at (search rules), length-drop) (omega (arith, at_most h.count (drop h.start c.args.store.now) _ c.part.ensures, n))
 
 pub overflow_add-at : goal.overflow_add-at
-overflow_add-at c = omega (arith, carried-next (take c.args.len c.args.row.heads) c.loop-h.h-index unset (search rules))
+overflow_add-at c = omega (arith, carried-next (take c.args.len c.args.row.now.heads) c.loop-h.h-index unset (search rules))
 
 pub loop-h-preserved : goal.loop-h-preserved
 loop-h-preserved c =
-    let hs = take c.args.len c.args.row.heads in
+    let hs = take c.args.len c.args.row.now.heads in
     let h = get_or hs c.loop-h.h-index unset in
     let n = carried-next hs c.loop-h.h-index unset (search rules) in
     let w = whole-at c.args.store.now hs c.loop-h.h-index unset c.requires.whole (search rules) in
@@ -27,4 +27,4 @@ loop-h-preserved c =
 
 pub returns : goal.returns
 returns c =
-    sym (gather-end c.args.store.now (take c.args.len c.args.row.heads) c.loop-h.h-index c.loop-h.at c.loop-h.out (search rules)) ∙ c.loop-h.invariant.1
+    sym (gather-end c.args.store.now (take c.args.len c.args.row.now.heads) c.loop-h.h-index c.loop-h.at c.loop-h.out (search rules)) ∙ c.loop-h.invariant.1

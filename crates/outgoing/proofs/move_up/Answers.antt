@@ -1,7 +1,7 @@
 -- `move_up` meets its contract.
 -- `outgoing::move_up` meets its contract: the cells from i on have moved.
-use lib.ListN.{length-set, length}
-use Prim.Native.Nat.{suc, ◌+◌, ◌-◌, ◌≤◌}
+use lib.ListN.{length-set}
+use Prim.Native.Nat.{suc, ◌+◌, ◌-◌}
 use Rattle.outgoing.proofs.Cells.{between, move-turn}
 use Rattle.storage.proofs.Laws.{put-nothing}
 use Rattle.storage.specs.Storage.{put_at}

@@ -1,13 +1,10 @@
 -- `move_up` meets its contract.
 -- `outgoing::move_up` meets its contract: the cells from i on have moved.
-use lib.ListN.{length-set, length}
-use Prim.Native.Nat.{suc, ◌+◌, ◌-◌, ◌≤◌}
-use Rattle.outgoing.proofs.Cells.{between, move-turn}
-use Rattle.storage.proofs.Laws.{put-nothing}
+use lib.ListN.{length}
+use Prim.Native.Nat.{◌+◌, ◌≤◌}
+use Rattle.outgoing.proofs.Cells.{between}
 use Rattle.storage.specs.Storage.{put_at}
-use borrow.Author.Rules.{rules}
-use native.Mathlib.Omega.{arith}
-use mathlib.Core.Path.{◌≡◌, refl, sym}
+use mathlib.Core.Path.{◌≡◌}
 use Rattle.outgoing.proofs.move_up.Given as goal
 
 abbrev pub invariant-loop-i : goal.invariant-loop-i

@@ -4,26 +4,22 @@ use Rattle.outgoing.proofs.Laid.{laid_same}
 use Rattle.outgoing.proofs.Heads.{packed-starts}
 use Rattle.outgoing.specs.Packing.{packed_from}
 use Rattle.outgoing.specs.Queue.{lent}
-use Rattle.storage.proofs.Laid.{at_most}
-use Rattle.base.proofs.Lists.{length-mapped}
 use lib.ListN.{length, take}
 use native.Mathlib.Omega.{arith}
 use mathlib.Core.Bool.{true}
 use mathlib.Core.Path.{◌≡◌, sym, ◌∙◌}
-use Prim.Native.Nat.{◌-◌}
-use borrow.Author.Rules.{rules}
 use Rattle.outgoing.proofs.pack.Goals as goal
 
 pub returns-then-is_packed : goal.returns-then-is_packed
-returns-then-is_packed c = let n : length c.args.row.heads ≡ 64 = search (rules, length-mapped) in
-    let t : packed_from 0 (take c.args.len c.args.row.heads) ≡ true = sym c.is_packed.ensures ∙ c.if-is_packed.true in
-    sym (laid_same c.args.len (lent c.args.row c.args.store.now) (record { below = omega arith; starts = packed-starts 0 (take c.args.len c.args.row.heads) t; within = omega arith }))
+returns-then-is_packed c = let n : length c.args.row.now.heads ≡ 64 = c.requires.places in
+    let t : packed_from 0 (take c.args.len c.args.row.now.heads) ≡ true = sym c.is_packed.ensures ∙ c.if-is_packed.true in
+    sym (laid_same c.args.len (lent c.args.row.now c.args.store.now) (record { below = omega arith; starts = packed-starts 0 (take c.args.len c.args.row.now.heads) t; within = omega arith }))
 
 pub end_of-used-requires-clause-heads_bound : goal.end_of-used-requires-clause-heads_bound
-end_of-used-requires-clause-heads_bound c = let n : length c.args.row.heads ≡ 64 = search (rules, length-mapped) in
-    omega (arith, restarted-end c.args.len c.args.row c.restart-packed.result c.args.store.now c.restart-packed.ensures (omega arith) (omega arith))
+end_of-used-requires-clause-heads_bound c = let n : length c.args.row.now.heads ≡ 64 = c.requires.places in
+    omega (arith, restarted-end c.args.len c.args.row.now c.restart.new.row c.args.store.now c.restart.ensures (omega arith) (omega arith))
 
 pub returns : goal.returns
-returns c = let n : length c.args.row.heads ≡ 64 = search (rules, length-mapped) in
-    let u = c.end_of-used.ensures ∙ restarted-end c.args.len c.args.row c.restart-packed.result c.args.store.now c.restart-packed.ensures (omega (arith, c.requires)) (omega (arith, c.requires)) in
-    rw (c.restart-packed.ensures, c.write_suffix.ensures, c.first.ensures, c.gather.ensures, u) (pack-lent c.args.len c.args.row c.args.store.now _ (omega (arith, c.requires)) c.requires.whole)
+returns c = let n : length c.args.row.now.heads ≡ 64 = c.requires.places in
+    let u = c.end_of-used.ensures ∙ restarted-end c.args.len c.args.row.now c.restart.new.row c.args.store.now c.restart.ensures (omega (arith, c.requires)) (omega (arith, c.requires)) in
+    rw (c.restart.ensures, c.write_suffix.ensures, c.first.ensures, c.gather.ensures, u) (pack-lent c.args.len c.args.row.now c.args.store.now _ (omega (arith, c.requires)) c.requires.whole)

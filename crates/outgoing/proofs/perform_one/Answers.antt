@@ -2,12 +2,8 @@
 use Rattle.outgoing.proofs.Edits.{raise-lent}
 use Rattle.messages.specs.declared.Row.{Row}
 use Rattle.outgoing.specs.Queue.{lent}
-use Rattle.paxos_box.specs.Box.{is_new}
-use Rattle.paxos_box.specs.declared.Sent.{Sent}
-use native.Mathlib.Omega.{arith}
 use mathlib.Core.Path.{◌∙◌, ap}
-use borrow.Author.Rules.{rules}
 use Rattle.outgoing.proofs.perform_one.Goals as goal
 
 pub returns-in-Raise : goal.returns-in-Raise
-returns-in-Raise c = rw c.in-Raise.is (ap (λ (r : Row). lent r c.args.store.now) c.raise.ensures ∙ raise-lent c.args.len c.args.row c.args.store.now c.in-Raise.r c.requires.packed)
+returns-in-Raise c = rw c.in-Raise.is (ap (λ (r : Row). lent r c.args.store.now) c.raise.ensures ∙ raise-lent c.args.len c.args.row.now c.args.store.now c.in-Raise.r c.requires.packed)

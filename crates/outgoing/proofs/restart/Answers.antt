@@ -1,5 +1,5 @@
 -- `outgoing::restart` meets its contract: what is to be restarted is what is left, from where the heads passed end.
-use Rattle.std.proofs.Common.{◌≡◌, ℕ, ◌+◌, ◌<◌, ◌≤◌, List, sym, ap, ◌∙◌, arith, rules, get_or-set_same}
+use Rattle.std.proofs.Common.{◌≡◌, ℕ, ◌+◌, ◌<◌, List, sym, ap, ◌∙◌, arith, rules, get_or-set_same}
 use lib.ListN.{get_or, set, length-set, length}
 use Rattle.outgoing.specs.Packing.{start_at, row_of, restarted}
 use Rattle.outgoing.proofs.Turns.{unset, restart-turn, restart-end, carried-left}
