@@ -1,8 +1,14 @@
--- Tests over the numbers below a bound: found, none found, and one more number.
+-- Tests over the numbers below a bound: found, none found, one more number, and what `any` answers over a list or over those numbers.
 use Prim.Native.Nat.{ℕ, zero, suc, ◌+◌, ◌<◌}
-use mathlib.Core.Bool.{Bool, true, false, ◌||◌, or-true}
+use Rattle.std.specs.List.{list_any, range_with_len}
+use Rattle.std.proofs.Common.{zero-add}
+use Rattle.std.proofs.Math.Bool.{or_assoc}
+use Rattle.std.proofs.lemmas.List.FromFn.{length-range_with_len, get_or-range_with_len}
+use lib.ListN.{length, get_or}
+use mathlib.Core.List.{List, [], ◌∷◌}
+use mathlib.Core.Bool.{Bool, true, false, ◌||◌, or-true, or-false}
 use mathlib.Core.Logic.{⊎_elim}
-use mathlib.Core.Path.{◌≡◌, refl}
+use mathlib.Core.Path.{◌≡◌, refl, sym}
 use native.Mathlib.Nat.{eq-or-lt_of_le, le_of_suc-le-suc, not-suc-le-zero}
 use native.Mathlib.Numerals.{add-one}
 use native.Mathlib.Omega.{arith}
@@ -36,3 +42,24 @@ module _ (f : ℕ → Bool) where
   pub none_more : (i : ℕ) → any_below f i ≡ false → f i ≡ false → any_below f (i + 1) ≡ false
   unfolding any_below
   none_more i e q = rw (add-one, e, q)
+
+-- the numbers below a bound and one more, counted from the front
+any-front : (f : ℕ → Bool) (n : ℕ) → any_below f (suc n) ≡ (f 0 || any_below (λ i. f (suc i)) n)
+unfolding any_below
+any-front f zero = sym (or-false (f 0))
+any-front f (suc n) = rw (any-front f n) (or_assoc (f 0) (any_below (λ i. f (suc i)) n) (f (suc n)))
+
+any-same : (f g : ℕ → Bool) (n : ℕ) → ((i : ℕ) → i < n → f i ≡ g i) → any_below f n ≡ any_below g n
+unfolding any_below
+any-same f g zero h = refl
+any-same f g (suc n) h = rw (any-same f g n (λ i l. h i (omega arith)), h n (omega arith))
+
+pub any-places : {A : Type 0} (test : A → Bool) (l : List A) (d : A) → list_any test l ≡ any_below (λ i. test (get_or l i d)) (length l)
+unfolding any_below
+any-places test [] d = refl
+any-places test (x ∷ l) d = rw (any-front (λ i. test (get_or (x ∷ l) i d)) (length l), any-places test l d)
+
+pub any-range : (test : ℕ → Bool) (n : ℕ) → list_any test (range_with_len 0 n) ≡ any_below test n
+any-range test n =
+    rw (any-places test (range_with_len 0 n) 0, length-range_with_len 0 n)
+    (any-same (λ i. test (get_or (range_with_len 0 n) i 0)) test n (λ i h. rw (get_or-range_with_len 0 n i 0 h, zero-add)))

@@ -6,7 +6,7 @@ use native.Mathlib.Decide.{ℕ_discrete}
 use native.Mathlib.Omega.{arith}
 use lib.ListN.{length, get_or, length-set, length-replicate, get_or-replicate}
 use Rattle.base.specs.Limits.{pumps, max_day, max_entry}
-use Rattle.hire_book.specs.Book.{book_length, cells, last_back_at, open_out_at, charged_at, last_back, open_out, charged, apply_of, broken_of, pump_broken, fresh_book, Sound}
+use Rattle.hire_book.specs.Book.{book_length, last_back_at, open_out_at, charged_at, last_back, open_out, charged, apply_of, broken_of, pump_broken, fresh_book, Sound}
 use Rattle.hire_book.specs.Hire.{pump_of, kind_of, day_of}
 use Rattle.hire_book.proofs.Below.{none, none-at}
 use Rattle.hire_book.proofs.Kept.{Kept, kept_of, kept-holds}

@@ -1,21 +1,13 @@
 -- Two answers that are told alike are the same answer.
-use mathlib.Core.Bool.{cond}
-use mathlib.Core.Path.{◌≡◌, refl, sym, ap, ◌∙◌}
-use lib.Dec.{eqb}
+use Rattle.std.specs.Prelude.{ℕ, Result, Ok, Err}
+use mathlib.Core.Path.{◌≡◌, ap}
+use native.Mathlib.Omega.{arith}
+use Rattle.base.specs.declared.Refusal.{Refusal}
+use Rattle.base.proofs.Numbers.{numbers_alike, number-positive}
 use Rattle.hire_book.specs.Step.{Told, told}
-use Rattle.hire_book.specs.declared.Answer.{Answer}
-use Rattle.hire_book.specs.declared.Answer.TheVariants.{WrongLength, Broken, NoPump, Days}
 
--- the answer that is told so
-meant : Told → Answer
-meant t = cond (eqb t.number 0) (Days t.days) (cond (eqb t.number 1) WrongLength (cond (eqb t.number 2) Broken NoPump))
-
-back : (a : Answer) → meant (told a) ≡ a
-unfolding meant
-back WrongLength = refl
-back Broken = refl
-back NoPump = refl
-back (Days d) = refl
-
-pub told-alike : (a b : Answer) → told a ≡ told b → a ≡ b
-told-alike a b e = sym (back a) ∙ ap meant e ∙ back b
+pub told-alike : (a b : Result ℕ Refusal) → told a ≡ told b → a ≡ b
+told-alike (Ok m) (Ok n) p = ap (λ (x : Told). Ok x.days) p
+told-alike (Ok m) (Err e) p = let n = ap (λ (x : Told). x.number) p in absurd (omega (arith, number-positive e))
+told-alike (Err d) (Ok n) p = let n = ap (λ (x : Told). x.number) p in absurd (omega (arith, number-positive d))
+told-alike (Err d) (Err e) p = ap (λ (x : Refusal). Err x) (numbers_alike d e (ap (λ (x : Told). x.number) p))

@@ -1,9 +1,9 @@
 -- What each call on a book gives: the answer and the book after it. Refusals stand in the order of R13.10 (docs/RULES.md), and each leaves the book as found.
-use Rattle.std.specs.Prelude.{ℕ, Bool, true, cond, not, List, ltb, leb, eqb, length}
+use Rattle.std.specs.Prelude.{ℕ, Bool, true, cond, not, List, ltb, leb, eqb, length, Result, Ok, Err}
 use Rattle.base.specs.Limits.{pumps, max_entry}
+use Rattle.base.specs.Refusal.{number_of}
+use Rattle.base.specs.declared.Refusal.{Refusal}
 use Rattle.hire_book.specs.Book.{book_length, broken_of, apply_of, apply_all, any_above, fresh_book, charged, stored_days}
-use Rattle.hire_book.specs.declared.Answer.{Answer}
-use Rattle.hire_book.specs.declared.Answer.TheVariants.{WrongLength, Broken, NoPump, Days}
 
 -- what a caller sees of a call that was lent a book
 pub record Seen : Type 0 where
@@ -19,6 +19,10 @@ wrong_length book = not (eqb (length book) book_length)
 
 abbrev pub of_sound : {A : Type 0} → (ℕ → A) → List ℕ → A → A
 of_sound refused book rest = cond (wrong_length book) (refused 1) (cond (broken_of book) (refused 2) rest)
+
+-- those two refusals alone
+abbrev pub check_of : List ℕ → ℕ
+check_of book = of_sound (λ n. n) book 0
 
 unfoldable pub apply_step : List ℕ → ℕ → Seen
 apply_step book e = of_sound (λ n. seen n book) book (cond (ltb max_entry e) (seen 4 book) (seen 0 (apply_of e book)))
@@ -42,11 +46,9 @@ pub record Told : Type 0 where
 abbrev pub tell : ℕ → ℕ → Told
 tell number days = record { number = number; days = days }
 
-abbrev pub told : Answer → Told
-told WrongLength = tell 1 0
-told Broken = tell 2 0
-told NoPump = tell 4 0
-told (Days days) = tell 0 days
+abbrev pub told : Result ℕ Refusal → Told
+told (Ok days) = tell 0 days
+told (Err refusal) = tell (number_of refusal) 0
 
 -- a pump's stored days; a pump that is none is an index above its limit
 unfoldable pub charged_step : List ℕ → ℕ → Told

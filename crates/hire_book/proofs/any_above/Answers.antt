@@ -1,14 +1,17 @@
--- `hire_book::any_above` meets its contract: up to the entry looked at, none was above the limit.
-use Prim.Native.Nat.{◌-◌}
+-- `hire_book::any_above` meets its contract: what the chain answers, place by place.
 use lib.Dec.{ltb}
-use lib.ListN.{length, get_or}
+use mathlib.Core.Path.{◌∙◌}
 use borrow.Author.Rules.{rules}
-use borrow.Author.Tests.{lt-ltb}
+use borrow.Author.Tests.{tests}
+use Rattle.std.proofs.lemmas.Iterator.{YieldsList-from_slice}
+use Rattle.std.proofs.lemmas.Iterator.Search.{any_from_yields_List}
 use Rattle.base.specs.Limits.{max_entry}
 use Rattle.hire_book.specs.Book.{any_above}
-use Rattle.hire_book.proofs.Below.{found}
+use Rattle.hire_book.proofs.Below.{any-places}
 use Rattle.hire_book.proofs.any_above.Goals as goal
 
-pub returns-then-entries-i-gt-MAX_ENTRY : goal.returns-then-entries-i-gt-MAX_ENTRY
+pub returns : goal.returns
 unfolding any_above
-returns-then-entries-i-gt-MAX_ENTRY c = let s = c.args.entries.now in rw (found (λ j. ltb max_entry (get_or s j 0)) (length s) c.loop-i.i (search rules) (lt-ltb _ _ c.if-entries-i-gt-MAX_ENTRY.true))
+returns c =
+    let s = c.args.entries.now in
+    any_from_yields_List (ltb max_entry) _ _ _ c.any.ensures.ran (YieldsList-from_slice s cc) (λ x b q k. search (rules, tests)) ∙ any-places (ltb max_entry) s 0
