@@ -1,12 +1,15 @@
 -- Texts put into a buffer one after the other.
-use Prim.Native.Nat.{ℕ, ◌+◌, ◌≤◌, ◌<◌}
+use Prim.Native.Nat.{ℕ, ◌+◌, ◌≤◌}
 use native.Mathlib.Nat.{add-suc, suc-add, add-zero, zero-add}
-use native.Mathlib.Numerals.{add-one}
 use native.Mathlib.Omega.{arith}
 use mathlib.Core.Path.{◌≡◌, refl, ap, ◌∙◌}
 use mathlib.Core.List.{List, [], ◌∷◌, ◌++◌}
-use lib.ListN.{length, take, drop, get_or, set, length-append}
-use lib.Seq.{sets, length-sets, sets-eq, take-suc}
+use lib.ListN.{length, drop, length-append}
+use lib.Seq.{sets, length-sets, sets-eq}
+use borrow.Rule.Slice.PartMut.{put_mid}
+use Rattle.std.proofs.Common.{append_assoc}
+use Rattle.std.proofs.lemmas.Slice.{put_mid-paste}
+use Rattle.std.proofs.lemmas.List.Edits.{paste_all}
 use Rattle.decimal.specs.Text.{Put}
 
 pub sets-append : (a b out : List ℕ) (at : ℕ) → sets out at (a ++ b) ≡ sets (sets out at a) (at + length a) b
@@ -26,9 +29,14 @@ put-after a b {found} {mid} {left} {at} p q =
       bytes = q.bytes ∙ rw (sets-append a b found at, p.place, p.bytes);
     }
 
--- one turn of a loop that puts a text byte by byte
-pub put-more : (text : List ℕ) (i at : ℕ) {found mid : List ℕ} → i < length text → at + length text ≤ length found → Put found at (take i text) (at + i) mid → Put found at (take (i + 1) text) (at + (i + 1)) (set mid (at + i) (get_or text i 0))
-put-more text i at {found} {mid} h k p = rw (add-one i, take-suc text i 0) (put-after (take i text) (get_or text i 0 ∷ []) p (record { room = omega (arith, put-length (take i text) p); place = omega arith; bytes = refl }))
+-- a text copied onto its part of the buffer
+pub put-copied : (text copied : List ℕ) (at n : ℕ) {found : List ℕ} → at + length text ≤ length found → copied ≡ text → n ≡ length text → Put found at text (at + length text) (put_mid at n found copied)
+put-copied text copied at n {found} h e q =
+    record {
+      room = h;
+      place = refl;
+      bytes = put_mid-paste at n found copied text n e refl q ∙ paste_all found at text n q ∙ rw (sets-eq text found at h, q, append_assoc);
+    }
 
 -- a text put at the start
 pub put-start : (text : List ℕ) {found left : List ℕ} {next : ℕ} → Put found 0 text next left → left ≡ text ++ drop (length text) found

@@ -5,7 +5,6 @@ ghost use Rattle.std.specs.Prelude.{◌≡◌, ◌+◌, ◌*◌, ◌≤◌, leng
 ghost use Rattle.base.specs.Limits.{pumps};
 ghost use Rattle.decimal.specs.Text.{Put};
 ghost use Rattle.hire_book.specs.Book.{charged, stored_days, Sound};
-ghost use Rattle.hire_book.specs.Step.{told};
 ghost use Rattle.page.specs.Page.{bad_line_of, row_of, rows_below, page_of, row_bytes, report_bytes};
 
 // The bytes that a report never passes: the heading, a line for each pump, and the total.
@@ -46,34 +45,11 @@ fn put_rows(out: &mut [u8], at: usize, book: &[u64]) -> usize
     ensures { Put out.old at (rows_below (charged book.now) pumps) result out.new }
 {
     let mut next = at;
-    let mut pump: usize = 0;
-    while pump < base::PUMPS {
-        let cells = pump * hire_book::CELLS;
-        next = put_row(out, next, pump as u64, book[cells + hire_book::CHARGED]);
-        pump += 1;
+    for pump in 0..base::PUMPS {
+        let days = book[pump * hire_book::CELLS + hire_book::CHARGED];
+        next = put_row(out, next, pump as u64, days);
     }
     next
-}
-
-// The days that an answer has; a refusal has none.
-fn days_of(answer: hire_book::Answer) -> u64
-    ensures { result ≡ (told answer).days }
-{
-    match answer {
-        hire_book::Answer::Days(days) => days,
-        hire_book::Answer::WrongLength => 0,
-        hire_book::Answer::Broken => 0,
-        hire_book::Answer::NoPump => 0,
-    }
-}
-
-// A sound book is not refused.
-#[tactic(auto, unfolding(hire_book::specs::Step::total_step))]
-fn total_of(book: &[u64]) -> u64
-    requires { Sound book.now }
-    ensures { result ≡ stored_days book.now }
-{
-    days_of(hire_book::total_days(book))
 }
 
 // The heading, the pumps' lines and the total.
@@ -86,6 +62,6 @@ pub fn put_page(out: &mut [u8], book: &[u64]) -> usize
     let rows = decimal::put_text(out, 0, b"pump days\n");
     let total = put_rows(out, rows, book);
     let number = decimal::put_text(out, total, b"total ");
-    let end = decimal::put_decimal(out, number, total_of(book));
+    let end = decimal::put_decimal(out, number, hire_book::sum_days(book));
     decimal::put(out, end, b'\n')
 }
