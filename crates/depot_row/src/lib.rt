@@ -118,7 +118,8 @@ fn make_again(book: &mut [u64], log: &[u64], decided: usize)
     requires log_value { any_above (take decided log.now) ≡ false }
     ensures { book.new ≡ book_of (take decided log.now) }
 {
-    hire_book::fresh(book);
+    // The length is the book's, so this is not refused.
+    let _ = hire_book::fresh(book);
     hire_book::apply_run(book, storage::first(log, decided));
 }
 

@@ -2,7 +2,7 @@
 #![tactic(auto)]
 
 ghost use Rattle.std.specs.Prelude.{◌≡◌};
-ghost use Rattle.hire_book.specs.Step.{told, total_step};
+ghost use Rattle.hire_book.specs.Step.{total_step};
 ghost use Rattle.cluster.specs.Cluster.{step_at};
 ghost use Rattle.rounds.specs.Drains.{carry_at, drained, waits_at, next_sender, settled};
 
@@ -170,21 +170,10 @@ pub fn settle(rt: &impl Print, c: &mut Cluster, drains: u64) -> io::Result<()>
 }
 
 // The stored days of a book; 0 where it is refused.
-fn total(answer: hire_book::Answer) -> u64
-    ensures { result ≡ (told answer).days }
-{
-    match answer {
-        hire_book::Answer::Days(days) => days,
-        hire_book::Answer::WrongLength => 0,
-        hire_book::Answer::Broken => 0,
-        hire_book::Answer::NoPump => 0,
-    }
-}
-
 pub fn total_of(book: [u64; hire_book::BOOK]) -> u64
     ensures { result ≡ (total_step book).days }
 {
-    total(hire_book::total_days(&book))
+    hire_book::total_days(&book).unwrap_or(0)
 }
 
 // A line of the table: what a depot promised and holds.
