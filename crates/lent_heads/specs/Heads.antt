@@ -1,5 +1,5 @@
 -- A lent row of heads: one head edited, the row by value, and the row by value written back.
-use Rattle.std.specs.Prelude.{ℕ, cond, List, ltb, length, take, set, get_or, replicate}
+use Rattle.std.specs.Prelude.{ℕ, List, length, take, set, get_or, replicate}
 use Rattle.base.specs.Limits.{max_messages}
 use Rattle.base.specs.Lists.{over}
 use Rattle.messages.specs.declared.Head.{Head}
@@ -13,15 +13,8 @@ edited_head d n h = record { to = h.to; msg = with_decided d h.msg; start = h.st
 abbrev pub edited : List Head → ℕ → ℕ → ℕ → List Head
 edited hs at d n = set hs at (edited_head d n (get_or hs at no_head))
 
--- how many places a lent row and the row by value have in common
-abbrev pub places_of : ℕ → ℕ
-places_of len = cond (ltb len max_messages) len max_messages
-
 abbrev pub blank_row : Row
 blank_row = record { heads = replicate max_messages no_head }
-
-abbrev pub with_head : Row → ℕ → Head → Row
-with_head row at h = record { heads = set row.heads at h }
 
 -- the first heads of the lent row, over a blank row
 unfoldable pub snapshot_of : List Head → Row
