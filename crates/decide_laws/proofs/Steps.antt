@@ -19,8 +19,7 @@ use Rattle.paxos_box.specs.declared.Outgoing.{Outgoing}
 use Rattle.paxos_box.specs.declared.Role.{Role}
 use Rattle.paxos_box.specs.declared.Role.TheVariants.{Leader, Follower}
 use Rattle.paxos_box.specs.Box.{standing_of}
-use Rattle.outcome.specs.declared.Decision.{Decision}
-use Rattle.outcome.specs.Outcome.{drained, restarted, outcome_refusal, settled}
+use Rattle.outcome.specs.Outcome.{Decision, drained, restarted, outcome_refusal, settled}
 use Rattle.sequence_paxos.specs.Decide.{report_of, brought_by, handle, resend_by, taken, decide_of}
 use Rattle.sequence_paxos.specs.Fit.{few_in, fit_event}
 use Rattle.decide_laws.specs.Counts.{Six, each_in, each_of}

@@ -9,8 +9,7 @@ use borrow.Author.Tests.{ltb-true, ltb-false, lt-ltb, le-ltb, eq-eqb, ne_eqb, eq
 use Rattle.base.specs.Limits.{max_log, max_buffered, max_messages, max_store}
 use Rattle.messages.specs.declared.Event.{Event}
 use Rattle.paxos_box.specs.declared.SequencePaxos.{SequencePaxos}
-use Rattle.outcome.specs.declared.Decision.{Decision}
-use Rattle.outcome.specs.Outcome.{queue_refusal, outcome_refusal, settled}
+use Rattle.outcome.specs.Outcome.{Decision, queue_refusal, outcome_refusal, settled}
 use Rattle.sequence_paxos.specs.Decide.{taken, decide_of}
 use Rattle.decide_laws.proofs.Grown.{either}
 

@@ -13,7 +13,7 @@ use Rattle.quorum.specs.declared.Configuration.{Configuration}
 use Rattle.messages.specs.declared.Event.{Event}
 use Rattle.messages.specs.declared.Row.{Row}
 use Rattle.record.specs.declared.Record.{Record}
-use Rattle.outcome.specs.declared.Decision.{Decision}
+use Rattle.outcome.specs.Outcome.{Decision}
 use Rattle.hire_book.proofs.Below.{neither}
 use Rattle.unfit.specs.Unfit.{wrong_sender, unfit_of, message_unfit, entry_above, foreign}
 use Rattle.broken.specs.Lent.{Lent}

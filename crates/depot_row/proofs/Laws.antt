@@ -12,8 +12,7 @@ use Rattle.quorum.specs.declared.Configuration.{Configuration}
 use Rattle.messages.specs.declared.Event.{Event}
 use Rattle.messages.specs.declared.Row.{Row}
 use Rattle.paxos_box.specs.declared.SequencePaxos.{SequencePaxos}
-use Rattle.outcome.specs.declared.Decision.{Decision}
-use Rattle.outcome.specs.Outcome.{outcome_refusal, settled}
+use Rattle.outcome.specs.Outcome.{Decision, outcome_refusal, settled}
 use Rattle.record.specs.declared.Record.{Record}
 use Rattle.record.specs.Record.{store_of}
 use Rattle.hire_book.specs.Book.{book_length, fresh_book, apply_all, any_above}

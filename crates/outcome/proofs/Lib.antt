@@ -1,1 +1,2 @@
 -- The laws of `outcome`.
+pub mod Told

@@ -1,6 +1,8 @@
 -- Drain and restart, and the refusals that only a step's outcome shows (4 where a message would be taken, 7, 5, 8, 6).
-use Rattle.std.specs.Prelude.{ℕ, ◌+◌, cond, ltb, eqb, None}
+use Rattle.std.specs.Prelude.{ℕ, ◌+◌, cond, ltb, eqb, None, Result, Ok, Err}
 use Rattle.base.specs.Limits.{max_log, max_buffered, max_messages, max_store}
+use Rattle.base.specs.declared.Refusal.{Refusal}
+use Rattle.base.specs.Refusal.{number_of}
 use Rattle.ballot.specs.Ballot.{default}
 use Rattle.sequence.specs.Sequence.{first}
 use Rattle.leader_state.specs.State.{with_of, forget_all}
@@ -8,7 +10,16 @@ use Rattle.paxos_box.specs.declared.SequencePaxos.{SequencePaxos}
 use Rattle.paxos_box.specs.declared.Role.TheVariants.{Follower}
 use Rattle.paxos_box.specs.declared.Phase.TheVariants as phase
 use Rattle.paxos_box.specs.Box.{with_leader, with_state, set_meta, set_seq, set_cached, set_buffered}
-use Rattle.outcome.specs.declared.Decision.{Decision}
+
+-- the refusal's number, or 0, and the box: as found where refused, as the step leaves it where taken
+pub record Decision : Type 0 where
+  pub no : ℕ
+  pub node : SequencePaxos
+
+-- what a function's result decides of the box as found
+abbrev pub as_decision : SequencePaxos → Result SequencePaxos Refusal → Decision
+as_decision found (Ok s) = record { no = 0; node = s }
+as_decision found (Err e) = record { no = number_of e; node = found }
 
 -- a drain forgets every remembered position, Accepted included (R11.2)
 unfoldable pub drained : SequencePaxos → SequencePaxos

@@ -3,19 +3,13 @@
 
 ghost use Rattle.std.specs.Prelude.{◌≡◌};
 ghost use Rattle.paxos_box.specs.Room.{Room};
-ghost use Rattle.outcome.specs.Outcome.{drained, restarted, queue_refusal, outcome_refusal, settled};
+ghost use Rattle.base.specs.Refusal.{answer_number};
+ghost use Rattle.outcome.specs.Outcome.{drained, restarted, queue_refusal, outcome_refusal, settled, as_decision};
 
 use ballot::Ballot;
-use base::{MAX_BUFFERED, MAX_LOG, MAX_MESSAGES, MAX_STORE};
+use base::{MAX_BUFFERED, MAX_LOG, MAX_MESSAGES, MAX_STORE, Refusal};
 use paxos_box::{Phase, Role, SequencePaxos};
 use sequence::SequenceNumber;
-
-// The refusal's number, or 0, and the box: as found where refused, as the step leaves it where taken.
-#[derive(Clone, Copy)]
-pub struct Decision {
-    pub no: u32,
-    pub node: SequencePaxos,
-}
 
 // Every remembered position is forgotten, the Accepted's included.
 #[tactic(auto, unfolding(crate::specs::Outcome::drained))]
@@ -24,9 +18,8 @@ pub fn take_outgoing_msgs(s: SequencePaxos) -> SequencePaxos
     ensures value { result ≡ drained s }
     ensures room { Room result }
 {
-    let l = s.leader_state;
-    let s1 = s.set_leader_state(l.reset_latest_accept_meta(s.config));
-    s1.set_latest_accepted(None)
+    s.set_leader_state(s.leader_state.reset_latest_accept_meta(s.config))
+        .set_latest_accepted(None)
 }
 
 // Promise, accepted round, log and decided index are kept; all else is as fresh.
@@ -36,60 +29,52 @@ pub fn restart(s: SequencePaxos) -> SequencePaxos
     ensures value { result ≡ restarted s }
     ensures room { Room result }
 {
-    let s1 = s.set_state(Role::Follower, Phase::Recover);
-    let s2 = s1.set_buffered(0);
-    let l = s.leader_state;
-    let s3 = s2.set_leader_state(l.with(Ballot::default(), s.config));
-    let s4 = s3.set_latest_accepted(None);
-    let s5 = s4.set_current_seq_num(SequenceNumber::default());
-    s5.set_cached(None)
+    s.set_state(Role::Follower, Phase::Recover)
+        .set_buffered(0)
+        .set_leader_state(s.leader_state.with(Ballot::default(), s.config))
+        .set_latest_accepted(None)
+        .set_current_seq_num(SequenceNumber::default())
+        .set_cached(None)
 }
 
 #[tactic(auto, unfolding(crate::specs::Outcome::queue_refusal))]
-fn queue_refusal(messages: usize, entries: usize) -> u32
-    ensures { result ≡ queue_refusal messages entries }
+fn queue_refusal(messages: usize, entries: usize) -> Result<(), Refusal>
+    ensures { answer_number result ≡ queue_refusal messages entries }
 {
-    if MAX_MESSAGES < messages {
-        return 6;
+    if MAX_MESSAGES < messages || MAX_STORE < entries {
+        return Err(Refusal::QueueFull);
     }
-    if MAX_STORE < entries {
-        return 6;
-    }
-    0
+    Ok(())
 }
 
 // The refusals that the taken step itself shows, in the table's order: 4, 7, 5, 8, 6.
 #[tactic(auto, unfolding(crate::specs::Outcome::outcome_refusal))]
-fn outcome_refusal(s: SequencePaxos) -> u32
+fn outcome_refusal(s: SequencePaxos) -> Result<(), Refusal>
     requires { Room s }
-    ensures { result ≡ outcome_refusal s }
+    ensures { answer_number result ≡ outcome_refusal s }
 {
-    let p = s.plan;
-    if p.unfit {
-        return 4;
+    if s.plan.unfit {
+        return Err(Refusal::Unfit);
     }
-    if p.top {
-        return 7;
+    if s.plan.top {
+        return Err(Refusal::AtTop);
     }
     if MAX_LOG < s.internal_storage.accepted_idx {
-        return 5;
+        return Err(Refusal::LogFull);
     }
     if MAX_BUFFERED < s.buffered_proposals {
-        return 8;
+        return Err(Refusal::BufferFull);
     }
-    let q = s.outgoing;
-    let x = p.sends;
-    queue_refusal(q.len + x.messages, q.entries + x.entries)
+    let messages = s.outgoing.len + s.plan.sends.messages;
+    queue_refusal(messages, s.outgoing.entries + s.plan.sends.entries)
 }
 
+// The box as the step leaves it, unless its outcome must be refused: then, with any box `found`, that one stays.
 #[tactic(auto, unfolding(crate::specs::Outcome::settled))]
-pub fn settle(found: SequencePaxos, s: SequencePaxos) -> Decision
+pub fn settle(s: SequencePaxos) -> Result<SequencePaxos, Refusal>
     requires { Room s }
-    ensures { result ≡ settled found s }
+    ensures { (found : _) → as_decision found result ≡ settled found s }
 {
-    let no = outcome_refusal(s);
-    if no == 0 {
-        return Decision { no: 0, node: s };
-    }
-    Decision { no, node: found }
+    outcome_refusal(s)?;
+    Ok(s)
 }

@@ -9,7 +9,7 @@ use lib.ListN.{length}
 use borrow.Author.Tests.{eq-eqb, ne_eqb, eqb-true}
 use Rattle.quorum.specs.declared.Configuration.{Configuration}
 use Rattle.messages.specs.declared.Event.{Event}
-use Rattle.outcome.specs.declared.Decision.{Decision}
+use Rattle.outcome.specs.Outcome.{Decision}
 use Rattle.sequence_paxos.specs.Decide.{decide_of}
 use Rattle.decide_laws.proofs.Grown.{either}
 use Rattle.refusals.specs.Refusals.{refusal_of}

@@ -10,8 +10,7 @@ use Rattle.messages.specs.declared.Promise.{Promise}
 use Rattle.paxos_box.specs.declared.SequencePaxos.{SequencePaxos}
 use Rattle.paxos_box.specs.declared.Role.{Role}
 use Rattle.paxos_box.specs.declared.Role.TheVariants.{Leader, Follower}
-use Rattle.outcome.specs.declared.Decision.{Decision}
-use Rattle.outcome.specs.Outcome.{drained, restarted, settled}
+use Rattle.outcome.specs.Outcome.{Decision, drained, restarted, settled}
 use Rattle.leader.specs.Leader.{handle_leader, handle_prepare_req, handle_forwarded_proposal, handle_promise, handle_accepted, handle_not_accepted, resend_messages_leader}
 use Rattle.reconnect.specs.Reconnect.{reconnected_of}
 use Rattle.accepting.specs.Accepting.{handle_acceptsync, handle_acceptdecide, handle_decide}

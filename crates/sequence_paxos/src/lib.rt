@@ -5,13 +5,14 @@ ghost use Rattle.std.specs.Prelude.{◌≡◌, ◌+◌, ◌≤◌, ◌<◌};
 ghost use Rattle.leader_state.specs.State.{own_place};
 ghost use Rattle.paxos_box.specs.Room.{Room};
 ghost use Rattle.follower.specs.Follower.{few_cached};
+ghost use Rattle.outcome.specs.Outcome.{as_decision};
 ghost use Rattle.sequence_paxos.specs.Decide.{brought_by, handle, resend_by, taken, decide_of};
 ghost use Rattle.base.specs.Limits.{max_proposal};
 ghost use Rattle.sequence_paxos.specs.Fit.{Sound, few_in, fit_event};
 
+use base::Refusal;
 use leader_state::{LogSync, PromiseMetaData};
 use messages::{Event, PaxosMessage, PaxosMsg, Promise};
-use outcome::Decision;
 use paxos_box::{Role, SequencePaxos};
 
 fn brought_by(sync: Option<usize>, count: usize) -> Option<LogSync>
@@ -120,12 +121,11 @@ fn take(s: SequencePaxos, e: Event, count: usize) -> SequencePaxos
     }
 }
 
-// What a step decides, once refusals 1, 2, 3 and the unconditional 4 are past.
-pub fn decide(s: SequencePaxos, e: Event, count: usize) -> Decision
+// What a step decides, once refusals 1, 2, 3 and the unconditional 4 are past: the box as the step leaves it, or a refusal.
+pub fn decide(s: SequencePaxos, e: Event, count: usize) -> Result<SequencePaxos, Refusal>
     requires sound { Sound s }
     requires fit_event { fit_event e count }
-    ensures { result ≡ decide_of e count s }
+    ensures { as_decision s result ≡ decide_of e count s }
 {
-    let next = take(s, e, count);
-    outcome::settle(s, next)
+    outcome::settle(take(s, e, count))
 }

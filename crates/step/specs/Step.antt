@@ -5,7 +5,7 @@ use Rattle.messages.specs.declared.Event.{Event}
 use Rattle.messages.specs.declared.Event.TheVariants as event
 use Rattle.messages.specs.declared.Row.{Row}
 use Rattle.paxos_box.specs.declared.SequencePaxos.{SequencePaxos}
-use Rattle.outcome.specs.declared.Decision.{Decision}
+use Rattle.outcome.specs.Outcome.{Decision}
 use Rattle.sequence_paxos.specs.Decide.{decide_of}
 use Rattle.record.specs.declared.Record.{Record}
 use Rattle.record.specs.Record.{load_of, store_of}

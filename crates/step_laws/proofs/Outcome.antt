@@ -11,8 +11,7 @@ use borrow.Author.Tests.{eqb-true, eqb-false, ne_eqb}
 use Rattle.quorum.specs.declared.Configuration.{Configuration}
 use Rattle.messages.specs.declared.Event.{Event}
 use Rattle.paxos_box.specs.declared.SequencePaxos.{SequencePaxos}
-use Rattle.outcome.specs.declared.Decision.{Decision}
-use Rattle.outcome.specs.Outcome.{outcome_refusal, settled}
+use Rattle.outcome.specs.Outcome.{Decision, outcome_refusal, settled}
 use Rattle.sequence_paxos.specs.Decide.{taken}
 use Rattle.refusals.specs.Refusals.{refusal_of}
 use Rattle.refusals.proofs.Exactly.{one-of-five}
