@@ -8,11 +8,9 @@ ghost use Rattle.broken.specs.Lent.{lent};
 ghost use Rattle.broken.specs.Broken.{buffer_above, held_above, best_sync, sync_in, cached_sync, kept_above, over_limit, meta_past, position_past, head_off, held_past, sync_past, leader_off, cached_foreign, meta_foreign, kept_foreign, message_default, state_broken, record_broken};
 
 use base::{MAX_BUFFERED, MAX_LOG, MAX_MESSAGES};
-use heads::HeadTest;
 use leader_state::LogSync;
 use messages::Row;
 use paxos_box::{AcceptedAt, CachedPromise};
-use places::PlaceTest;
 use quorum::Configuration;
 use record::Record;
 
@@ -107,7 +105,7 @@ fn position_past(c: Configuration, r: Record) -> bool
     ensures { result ≡ position_past c r }
 {
     let l = r.leader_state;
-    if places::any_place(l, c.depots, PlaceTest::Past(r.outgoing)) {
+    if places::any_past(l, c.depots, r.outgoing) {
         return true;
     }
     meta_past(r.outgoing, r.latest_accepted_meta)
@@ -119,7 +117,7 @@ fn head_off(r: Record, row: Row) -> bool
     requires { r.outgoing ≤ max_messages }
     ensures { result ≡ head_off r row }
 {
-    if heads::any_head(row, r.outgoing, HeadTest::Outside) {
+    if heads::any_outside(row, r.outgoing) {
         return true;
     }
     heads::any_overlap(row, r.outgoing)
@@ -198,7 +196,7 @@ fn kept_foreign(c: Configuration, r: Record, row: Row) -> bool
     if unfit::either_foreign(c, l.n_leader, best.meta.n_accepted) {
         return true;
     }
-    if places::any_place(l, c.depots, PlaceTest::Foreign(c)) {
+    if places::any_foreign(l, c.depots, c) {
         return true;
     }
     if cached_foreign(c, m) {
@@ -207,7 +205,7 @@ fn kept_foreign(c: Configuration, r: Record, row: Row) -> bool
     if meta_foreign(c, meta) {
         return true;
     }
-    heads::any_head(row, r.outgoing, HeadTest::Foreign(c))
+    heads::any_foreign(row, r.outgoing, c)
 }
 
 fn message_default(m: Option<CachedPromise>) -> bool
@@ -234,7 +232,7 @@ fn state_broken(c: Configuration, r: Record, row: Row) -> bool
     if head_off(r, row) {
         return true;
     }
-    if places::any_place(l, c.depots, PlaceTest::Misplaced) {
+    if places::any_misplaced(l, c.depots) {
         return true;
     }
     if sync_past(r) {

@@ -1,5 +1,5 @@
 -- Tests over the heads that wait in the row: where their entries lie in the store, the ballots they name, the entries themselves.
-use Rattle.std.specs.Prelude.{ℕ, ◌+◌, Bool, ◌&&◌, List, ltb}
+use Rattle.std.specs.Prelude.{ℕ, ◌+◌, ◌<◌, ◌≡◌, Bool, ◌&&◌, List, ltb}
 use Rattle.base.specs.Limits.{max_store}
 use Rattle.quorum.specs.declared.Configuration.{Configuration}
 use Rattle.messages.specs.declared.Head.{Head}
@@ -8,8 +8,6 @@ use Rattle.hire_book.specs.Below.{any_below}
 use Rattle.hire_book.specs.Book.{any_above}
 use Rattle.sight.specs.Sight.{part_of, head_at}
 use Rattle.unfit.specs.Unfit.{ballot_foreign}
-use Rattle.heads.specs.declared.HeadTest.{HeadTest}
-use Rattle.heads.specs.declared.HeadTest.TheVariants.{Outside, Overlap, Foreign}
 
 -- some head of the first `len` of the row passes a test
 unfoldable pub any_head : (Head → Bool) → Row → ℕ → Bool
@@ -44,8 +42,6 @@ head_foreign c h = ballot_foreign c h.msg
 abbrev pub head_above : List ℕ → Head → Bool
 head_above store h = any_above (part_of h.start h.count store)
 
--- the test that is made of each head
-abbrev pub head_test : HeadTest → Head → Bool
-head_test Outside h = head_outside h
-head_test (Overlap start count) h = overlap start count h.start h.count
-head_test (Foreign c) h = head_foreign c h
+-- what a test answers, passed in and asked of each of the first `len` heads, is what f says
+pub record Tells (answers : Head → Bool → Type 0) (f : Head → Bool) (row : Row) (len : ℕ) : Type 0 where
+  pub at : (i : ℕ) → i < len → (r : Bool) → answers (head_at row i) r → r ≡ f (head_at row i)

@@ -1,80 +1,76 @@
 // Tests over the heads that wait in the row: where their entries lie in the store, the ballots they name, the entries themselves.
 #![tactic(auto)]
 
-ghost use Rattle.std.specs.Prelude.{◌≡◌, ◌≤◌};
+ghost use Rattle.std.specs.Prelude.{Bool, ◌≡◌, ◌≤◌};
 ghost use Rattle.base.specs.Limits.{max_messages};
-ghost use Rattle.heads.specs.Heads.{any_head, outside, overlap, any_overlap, head_above, head_test};
+ghost use Rattle.messages.specs.declared.Head.{Head};
+ghost use Rattle.heads.specs.Heads.{Tells, any_head, outside, overlap, heads_overlap, any_overlap, head_outside, head_foreign, head_above};
 
 use base::MAX_STORE;
 use messages::{Head, Row};
 use quorum::Configuration;
 
-// What is asked of each head: whether its entries lie outside the store; whether they overlap the cells from a start on, so many; whether it
-// names a nonzero ballot whose pid is no depot.
-#[derive(Clone, Copy)]
-pub enum HeadTest {
-    Outside,
-    Overlap(usize, usize),
-    Foreign(Configuration),
-}
-
 #[tactic(auto, unfolding(crate::specs::Heads::outside))]
 fn outside(start: usize, count: usize) -> bool
     ensures { result ≡ outside start count }
 {
-    if count == 0 {
-        return false;
-    }
-    if MAX_STORE < start {
-        return true;
-    }
-    MAX_STORE - start < count
+    count != 0 && (MAX_STORE < start || MAX_STORE - start < count)
 }
 
 #[tactic(auto, unfolding(crate::specs::Heads::overlap))]
 fn overlap(a: usize, n: usize, b: usize, m: usize) -> bool
     ensures { result ≡ overlap a n b m }
 {
-    if n == 0 {
-        return false;
-    }
-    if m == 0 {
-        return false;
-    }
-    if a < b {
-        return b - a < n;
-    }
-    a - b < m
-}
-
-fn head_test(t: HeadTest, h: Head) -> bool
-    ensures { result ≡ head_test t h }
-{
-    match t {
-        HeadTest::Outside => outside(h.start, h.count),
-        HeadTest::Overlap(start, count) => overlap(start, count, h.start, h.count),
-        HeadTest::Foreign(c) => {
-            let m = h.msg;
-            unfit::ballot_foreign(c, m)
-        }
-    }
+    n != 0 && m != 0 && if a < b { b - a < n } else { a - b < m }
 }
 
 // Whether some head of the first `len` passes the test.
-#[tactic(auto, unfolding(hire_book::specs::Below::any_below, crate::specs::Heads::any_head))]
-pub fn any_head(row: Row, len: usize, t: HeadTest) -> bool
-    requires { len ≤ max_messages }
-    ensures { result ≡ any_head (head_test t) row len }
+#[tactic(auto, unfolding(crate::specs::Heads::any_head))]
+fn any_head<F: Fn(Head) -> bool>(row: Row, len: usize, test: F) -> bool
+    requires len_le_max_messages { len ≤ max_messages }
+    requires callable { F.IsAlwaysCallable test }
+    ensures { (f : Head → Bool) → Tells (F.post test) f row len → result ≡ any_head f row len }
 {
-    let mut i: usize = 0;
-    while i < len {
-        let h = row.heads[i];
-        if head_test(t, h) {
+    for h in &row.heads[..len] {
+        if test(*h) {
             return true;
         }
-        i += 1;
     }
     false
+}
+
+// Whether the entries of some head lie outside the store.
+pub fn any_outside(row: Row, len: usize) -> bool
+    requires { len ≤ max_messages }
+    ensures { result ≡ any_head head_outside row len }
+{
+    any_head(row, len, |h| outside(h.start, h.count))
+}
+
+// Whether some head names a nonzero ballot whose pid is no depot.
+pub fn any_foreign(row: Row, len: usize, c: Configuration) -> bool
+    requires { len ≤ max_messages }
+    ensures { result ≡ any_head (head_foreign c) row len }
+{
+    any_head(row, len, |h| unfit::ballot_foreign(c, h.msg))
+}
+
+// Whether some entry of the first `len` heads is above its limit.
+pub fn any_head_above(row: Row, len: usize, store: &[u64]) -> bool
+    requires { len ≤ max_messages }
+    ensures { result ≡ any_head (head_above store.now) row len }
+{
+    any_head(row, len, |h| {
+        hire_book::any_above(sight::part(store, h.start, h.count))
+    })
+}
+
+// Whether a head's entries overlap those of some head before place j.
+fn overlaps_before(h: Head, row: Row, j: usize) -> bool
+    requires { j ≤ max_messages }
+    ensures { result ≡ any_head (heads_overlap h) row j }
+{
+    any_head(row, j, |g| overlap(h.start, h.count, g.start, g.count))
 }
 
 // Whether the entries of two of the first `len` heads overlap.
@@ -83,30 +79,10 @@ pub fn any_overlap(row: Row, len: usize) -> bool
     requires { len ≤ max_messages }
     ensures { result ≡ any_overlap row len }
 {
-    let mut j: usize = 0;
-    while j < len {
-        let h = row.heads[j];
-        if any_head(row, j, HeadTest::Overlap(h.start, h.count)) {
+    for (j, h) in row.heads[..len].iter().enumerate() {
+        if overlaps_before(*h, row, j) {
             return true;
         }
-        j += 1;
-    }
-    false
-}
-
-// Whether some entry of the first `len` heads is above its limit.
-#[tactic(auto, unfolding(hire_book::specs::Below::any_below, crate::specs::Heads::any_head))]
-pub fn any_head_above(row: Row, len: usize, store: &[u64]) -> bool
-    requires { len ≤ max_messages }
-    ensures { result ≡ any_head (head_above store.now) row len }
-{
-    let mut i: usize = 0;
-    while i < len {
-        let h = row.heads[i];
-        if hire_book::any_above(sight::part(store, h.start, h.count)) {
-            return true;
-        }
-        i += 1;
     }
     false
 }

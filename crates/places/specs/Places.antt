@@ -1,5 +1,5 @@
 -- Tests over the depots' places of the leader's record, 1 to depots: the remembered position, whose the kept promise is, its accepted round.
-use Rattle.std.specs.Prelude.{ℕ, ◌+◌, Bool, false, not, leb, eqb, Option, None, Some}
+use Rattle.std.specs.Prelude.{ℕ, ◌+◌, ◌<◌, ◌≤◌, ◌≡◌, Bool, false, not, leb, eqb, Option, None, Some}
 use Rattle.quorum.specs.declared.Configuration.{Configuration}
 use Rattle.leader_state.specs.State.{depot_of}
 use Rattle.leader_state.specs.declared.Depot.{Depot}
@@ -8,8 +8,6 @@ use Rattle.leader_state.specs.declared.PromiseState.{PromiseState}
 use Rattle.leader_state.specs.declared.PromiseState.TheVariants.{NotPromised, Promised, PromisedHigher}
 use Rattle.hire_book.specs.Below.{any_below}
 use Rattle.unfit.specs.Unfit.{foreign}
-use Rattle.places.specs.declared.PlaceTest.{PlaceTest}
-use Rattle.places.specs.declared.PlaceTest.TheVariants.{Past, Misplaced, Foreign}
 
 -- some depot's place passes a test on its pid and what it holds; places past the depots are not read
 unfoldable pub any_place : (ℕ → Depot → Bool) → ℕ → LeaderState → Bool
@@ -41,8 +39,6 @@ promise_foreign c PromisedHigher = false
 abbrev pub place_foreign : Configuration → ℕ → Depot → Bool
 place_foreign c pid d = promise_foreign c d.promise
 
--- the test that is made of each place
-abbrev pub place_test : PlaceTest → ℕ → Depot → Bool
-place_test (Past len) pid d = place_past len pid d
-place_test Misplaced pid d = misplaced pid d
-place_test (Foreign c) pid d = place_foreign c pid d
+-- what a test answers, passed in and asked of each depot's place, is what f says
+pub record Tells (answers : ℕ → Depot → Bool → Type 0) (f : ℕ → Depot → Bool) (depots : ℕ) (l : LeaderState) : Type 0 where
+  pub at : (pid : ℕ) → 0 < pid → pid ≤ depots → (r : Bool) → answers pid (depot_of pid l) r → r ≡ f pid (depot_of pid l)

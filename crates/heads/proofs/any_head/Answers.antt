@@ -1,16 +1,19 @@
--- `heads::any_head` meets its contract: no head passed passes the test.
-use Prim.Native.Nat.{◌<◌}
-use mathlib.Core.Path.{sym, ap, ◌∙◌}
-use native.Mathlib.Omega.{arith}
-use lib.ListN.{length}
-use Rattle.sight.proofs.Heads.{within}
-use Rattle.sight.specs.Sight.{head_at}
-use Rattle.hire_book.proofs.Below.{found}
-use Rattle.messages.specs.Messages.{no_head}
-use Rattle.heads.specs.Heads.{head_test, any_head}
+-- `heads::any_head` meets its contract: the test answered no at each head passed.
+use Rattle.std.proofs.Common.{true, false, arith, below_more}
+use lib.ListN.{length-take}
+use Rattle.messages.specs.declared.Head.{Head}
+use Rattle.heads.proofs.Tells.{shown, in_row, some_head, no_head_passed}
 use Rattle.heads.proofs.any_head.Goals as goal
 
-pub returns-then-head_test : goal.returns-then-head_test
-unfolding any_head
-returns-then-head_test c = let p : c.loop-i.i < length c.args.row.heads = omega arith in
-    sym (found (λ j. head_test c.args.t (head_at c.args.row j)) c.args.len c.loop-i.i (omega arith) (sym (ap (head_test c.args.t) (within no_head c.args.row.heads c.loop-i.i p _)) ∙ (sym c.head_test.ensures ∙ c.if-head_test.true)))
+pub returns-then-test : goal.returns-then-test
+returns-then-test g c f t =
+    some_head _ f c.args.row c.args.len t c.loop-h.h-index (in_row c.args.row c.args.len c.loop-h.h-index c.loop-h-test.true)
+    (shown (λ (x : Head). g.F.Fn.post c.args.test (x, tt) true) c.args.row c.args.len c.loop-h.h-index _ c.loop-h-test.true (rw c.if-test.true at c.test.ensures))
+
+pub loop-h-preserved : goal.loop-h-preserved
+loop-h-preserved g c =
+    below_more _ _ c.loop-h.invariant
+    (shown (λ (x : Head). g.F.Fn.post c.args.test (x, tt) false) c.args.row c.args.len c.loop-h.h-index _ c.loop-h-test.true (rw c.if-test.false at c.test.ensures))
+
+pub returns : goal.returns
+returns g c f t = no_head_passed _ f c.args.row c.args.len t (λ i h. c.loop-h.invariant i (omega (arith, length-take c.args.len c.args.row.heads)))

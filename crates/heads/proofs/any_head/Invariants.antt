@@ -1,15 +1,7 @@
--- `heads::any_head` meets its contract: no head passed passes the test.
-use Prim.Native.Nat.{◌≤◌, ◌-◌}
-use mathlib.Core.Path.{◌≡◌}
-use mathlib.Core.Bool.{false}
-use lib.ListN.{length}
+-- `heads::any_head` meets its contract: the test answered no at each head passed.
+use Rattle.std.proofs.Common.{ℕ, ◌<◌, false}
 use Rattle.sight.specs.Sight.{head_at}
-use Rattle.hire_book.specs.Below.{any_below}
-use Rattle.heads.specs.Heads.{head_test}
 use Rattle.heads.proofs.any_head.Given as goal
 
-abbrev pub invariant-loop-i : goal.invariant-loop-i
-invariant-loop-i l = (l.i ≤ l.len) × (l.len ≤ 64) × (length l.row.heads ≡ 64) × (any_below (λ j. head_test l.t (head_at l.row j)) l.i ≡ false)
-
-abbrev pub decreases-loop-i : goal.decreases-loop-i
-decreases-loop-i l = l.len - l.i
+abbrev pub invariant-loop-h : goal.invariant-loop-h
+invariant-loop-h g l = (i : ℕ) → i < l.h-index → goal.F-post g l.test (head_at l.fn.row i) false

@@ -1,16 +1,23 @@
 -- `heads::any_overlap` meets its contract: no head passed overlaps one before it.
-use Prim.Native.Nat.{◌<◌}
-use mathlib.Core.Path.{sym, ap, ◌∙◌}
-use native.Mathlib.Omega.{arith}
-use lib.ListN.{length}
-use Rattle.sight.proofs.Heads.{within}
-use Rattle.hire_book.proofs.Below.{found}
-use Rattle.messages.specs.Messages.{no_head}
+use Rattle.std.proofs.Common.{◌≡◌, arith, sym, ◌∙◌}
+use lib.ListN.{length-take}
 use Rattle.messages.specs.declared.Head.{Head}
+use Rattle.hire_book.proofs.Below.{found, none_more}
 use Rattle.heads.specs.Heads.{any_head, heads_overlap, overlaps, any_overlap}
+use Rattle.heads.proofs.Tells.{shown, in_row}
 use Rattle.heads.proofs.any_overlap.Goals as goal
 
-pub returns-then-any_head : goal.returns-then-any_head
+pub returns-then-overlaps_before : goal.returns-then-overlaps_before
 unfolding any_overlap
-returns-then-any_head c = let p : c.loop-j.j < length c.args.row.heads = omega arith in
-    sym (found (overlaps c.args.row) c.args.len c.loop-j.j (omega arith) (sym (ap (λ (x : Head). any_head (heads_overlap x) c.args.row c.loop-j.j) (within no_head c.args.row.heads c.loop-j.j p _)) ∙ (sym c.any_head.ensures ∙ c.if-any_head.true)))
+returns-then-overlaps_before c =
+    let e = shown (λ (x : Head). c.overlaps_before.result ≡ any_head (heads_overlap x) c.args.row c.loop-j.j) c.args.row c.args.len c.loop-j.j _ c.loop-j-test.true c.overlaps_before.ensures in
+    sym (found (overlaps c.args.row) c.args.len c.loop-j.j (in_row c.args.row c.args.len c.loop-j.j c.loop-j-test.true) (sym e ∙ c.if-overlaps_before.true))
+
+pub loop-j-preserved : goal.loop-j-preserved
+loop-j-preserved c =
+    let e = shown (λ (x : Head). c.overlaps_before.result ≡ any_head (heads_overlap x) c.args.row c.loop-j.j) c.args.row c.args.len c.loop-j.j _ c.loop-j-test.true c.overlaps_before.ensures in
+    none_more (overlaps c.args.row) c.loop-j.j c.loop-j.invariant (sym e ∙ c.if-overlaps_before.false)
+
+pub returns : goal.returns
+unfolding any_overlap
+returns c = let e : c.loop-j.j ≡ c.args.len = omega (arith, length-take c.args.len c.args.row.heads) in rw e at (sym c.loop-j.invariant)

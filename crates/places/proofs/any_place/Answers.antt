@@ -1,12 +1,18 @@
--- `places::any_place` meets its contract: no place passed passes the test.
-use Prim.Native.Nat.{◌+◌}
-use mathlib.Core.Path.{sym, ap, ◌∙◌}
-use native.Mathlib.Omega.{arith}
-use Rattle.hire_book.proofs.Below.{found}
+-- `places::any_place` meets its contract: the test answered no at each place passed.
+use Rattle.std.proofs.Common.{◌<◌, false, arith, below_more}
 use Rattle.leader_state.specs.State.{depot_of}
-use Rattle.places.specs.Places.{place_test, any_place}
+use Rattle.places.proofs.Tells.{some_place, no_place_passed}
 use Rattle.places.proofs.any_place.Goals as goal
+use Rattle.places.proofs.any_place.Goals.{else-loop-pid-test, then-loop-pid-test+else-test+else-pid-depots}
 
-pub returns-then-place_test : goal.returns-then-place_test
-unfolding any_place
-returns-then-place_test c = sym (found (λ i. place_test c.args.t (i + 1) (depot_of (i + 1) c.args.l)) c.args.depots c.loop-pid.pid (omega arith) (sym (c.place_test.ensures ∙ ap (place_test c.args.t (c.loop-pid.pid + 1)) c.get_depot-d.ensures) ∙ c.if-place_test.true))
+pub returns-then-test : goal.returns-then-test
+returns-then-test g c f t =
+    some_place _ f c.args.depots c.args.l t c.loop-pid.pid (omega arith) (omega arith) (rw (c.get_depot.ensures, c.if-test.true) at c.test.ensures)
+
+pub returns : goal.returns
+returns g c f t = no_place_passed _ f c.args.depots c.args.l t (elim c.loop-pid-test.branch [
+  | else-loop-pid-test w ↦ λ p h k. c.loop-pid.invariant p h (omega arith)
+  | then-loop-pid-test+else-test+else-pid-depots w ↦ λ p h k.
+      below_more (λ q. 0 < q → g.F.Fn.post c.args.test (q, (depot_of q c.args.l, tt)) false) c.loop-pid.pid
+      (λ q lt pos. c.loop-pid.invariant q pos lt) (λ pos. rw (w.get_depot.ensures, w.if-test.false) at w.test.ensures) p (omega arith) h
+])
