@@ -1,5 +1,5 @@
 -- What a step decides about the log and the buffered proposals, in numbers. Each function takes the box last.
-use Rattle.std.specs.Prelude.{ℕ, zero, suc, ◌+◌, ◌-◌, min, max, Bool, true, false, cond, not, ltb, eqb, Some}
+use Rattle.std.specs.Prelude.{ℕ, ◌+◌, ◌-◌, min, max, Bool, true, false, cond, not, ltb, eqb, Some}
 use Rattle.base.specs.Limits.{max_log}
 use Rattle.ballot.specs.declared.Ballot.{Ballot}
 use Rattle.leader_state.specs.declared.LogSync.{LogSync}

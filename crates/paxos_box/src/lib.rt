@@ -3,6 +3,7 @@
 #![tactic(auto)]
 
 ghost use Rattle.std.specs.Prelude.{◌≡◌, ◌+◌, ◌*◌, ◌≤◌, ◌<◌};
+ghost use Rattle.paxos_box.specs.declared.Sent.TheVariants.{New};
 ghost use Rattle.paxos_box.specs.Room.{Room};
 ghost use Rattle.paxos_box.specs.Box.{is_new, planned, push_of, next_place, unfit, at_top, with_state, with_leader, with_storage, with_writes, set_promised, set_decided, set_length, set_seq, set_cached, set_meta, set_buffered, log_op, cached_op, best_op, buffer_op, kept_buffered, is_recover, is_accept_phase, is_leader, standing_of};
 
@@ -256,6 +257,21 @@ impl SequencePaxos {
     {
         self.plan = self.plan.with_send(m);
         self
+    }
+
+    // A new message, with `count` entries from `source`.
+    pub fn send_new(self, to: u64, msg: PaxosMsg, source: Source, count: usize) -> Self
+        requires room { Room self }
+        requires count_bound { count ≤ 1024 }
+        ensures value { result ≡ push_of (record { to = to; what = New msg; source = source; count = count }) self }
+        ensures room_2 { Room result }
+    {
+        self.push_send(Send {
+            to,
+            what: Sent::New(msg),
+            source,
+            count,
+        })
     }
 
     // The position that the next new message will have in the queue.

@@ -21,12 +21,11 @@ fn left_leader(s: SequencePaxos, pid: u64) -> SequencePaxos
     ensures value { result ≡ left_leader pid s }
     ensures room { Room result }
 {
-    let t = s.internal_storage;
-    let n = t.promise;
-    if pid == n.pid {
-        return to_recover(s);
+    if pid == s.internal_storage.promise.pid {
+        to_recover(s)
+    } else {
+        s
     }
-    s
 }
 
 #[tactic(auto, unfolding(crate::specs::Reconnect::reconnected_of))]
@@ -35,8 +34,7 @@ pub fn reconnected(s: SequencePaxos, pid: u64) -> SequencePaxos
     ensures value { result ≡ reconnected_of pid s }
     ensures room { Room result }
 {
-    let c = s.config;
-    if pid == c.pid {
+    if pid == s.config.pid {
         return s;
     }
     sends::send_preparereq(left_leader(s, pid), pid)

@@ -5,7 +5,7 @@ ghost use Rattle.std.specs.Prelude.{◌≡◌, ◌+◌, ◌≤◌, ◌<◌};
 ghost use Rattle.base.specs.Limits.{max_depots};
 ghost use Rattle.leader_state.specs.State.{own_place};
 ghost use Rattle.paxos_box.specs.Room.{Room};
-ghost use Rattle.sends.specs.Sends.{suffix_length, sync_fits, next_session_of, next_seq_num_of, set_latest_of, latest_accdec, send_prepare, send_acc_sync, acc_sync_to, join_to, new_accept_decide, accept_decide_to, new_session, push_acc_sync, push_accept_decide, push_decide, decide_to, send_prepare_req, few_entries, send_one, turn_of, for_marked, peers_of};
+ghost use Rattle.sends.specs.Sends.{suffix_length, sync_fits, next_session_of, next_seq_num_of, set_latest_of, latest_accdec, send_prepare, send_acc_sync, acc_sync_to, join_to, new_accept_decide, accept_decide_to, new_session, push_acc_sync, push_accept_decide, push_decide, decide_to, send_prepare_req, few_entries, send_one, for_marked, peers_of};
 
 use base::LARGEST;
 use leader_state::{PromiseMetaData, PromiseState};
@@ -14,7 +14,9 @@ use paxos_box::{Join, Send, Sent, SequencePaxos, Source};
 use quorum::Configuration;
 
 // What goes to each of several depots: `count` entries of the log from `from` on in an AcceptDecide, or none.
-#[derive(Clone, Copy)]
+// Kept: an enum and not a closure, since `send_each` and the theorems of decide_laws, table_laws, step_laws, unread_laws and faces speak of
+// `for_marked` and `turn_of` at each value of `Each`: a closure would need that value beside it.
+#[derive(Clone, Copy, Debug, PartialEq, Eq)]
 pub enum Each {
     Prepare,
     AcceptSync,
@@ -29,7 +31,7 @@ pub fn suffix_length(len: usize, from: usize) -> usize
     ensures value { result ≡ suffix_length len from }
     ensures upper_bound { result ≤ len }
 {
-    if len < from { 0 } else { len - from }
+    len.saturating_sub(from)
 }
 
 // A log sync to be built from past the own log's end makes the message unfit.
@@ -40,9 +42,10 @@ pub fn check_log_sync(s: SequencePaxos, from: usize) -> SequencePaxos
     ensures room { Room result }
 {
     if s.internal_storage.accepted_idx < from {
-        return s.refuse_unfit();
+        s.refuse_unfit()
+    } else {
+        s
     }
-    s
 }
 
 #[tactic(auto, unfolding(crate::specs::Sends::next_session_of))]
@@ -53,8 +56,7 @@ fn increment_seq_num_session(s: SequencePaxos, to: u64) -> SequencePaxos
     ensures room_2 { Room result }
 {
     let l = s.leader_state;
-    let q = l.get_seq_num(to);
-    if LARGEST <= q.session {
+    if LARGEST <= l.get_seq_num(to).session {
         return s.refuse_top();
     }
     s.set_leader_state(l.increment_seq_num_session(to))
@@ -68,8 +70,7 @@ fn next_seq_num(s: SequencePaxos, to: u64) -> SequencePaxos
     ensures room_2 { Room result }
 {
     let l = s.leader_state;
-    let q = l.get_seq_num(to);
-    if LARGEST <= q.counter {
+    if LARGEST <= l.get_seq_num(to).counter {
         return s.refuse_top();
     }
     s.set_leader_state(l.next_seq_num(to))
@@ -81,8 +82,7 @@ pub fn set_latest_accept_meta(s: SequencePaxos, to: u64, latest: Option<usize>) 
     ensures value { result ≡ set_latest_of to latest s }
     ensures room_2 { Room result }
 {
-    let l = s.leader_state;
-    s.set_leader_state(l.set_latest_accept_meta(to, latest))
+    s.set_leader_state(s.leader_state.set_latest_accept_meta(to, latest))
 }
 
 #[tactic(auto, unfolding(crate::specs::Sends::send_prepare))]
@@ -91,22 +91,14 @@ pub fn send_prepare(s: SequencePaxos, to: u64) -> SequencePaxos
     ensures value { result ≡ send_prepare to s }
     ensures room { Room result }
 {
-    let l = s.leader_state;
-    let n = l.n_leader;
-    let t = s.internal_storage;
-    let n_accepted = t.accepted_round;
+    let found = s.internal_storage;
     let prep = Prepare {
-        n,
-        decided_idx: t.decided_idx,
-        n_accepted,
-        accepted_idx: t.accepted_idx,
+        n: s.leader_state.n_leader,
+        decided_idx: found.decided_idx,
+        n_accepted: found.accepted_round,
+        accepted_idx: found.accepted_idx,
     };
-    s.push_send(Send {
-        to,
-        what: Sent::New(PaxosMsg::Prepare(prep)),
-        source: Source::Nothing,
-        count: 0,
-    })
+    s.send_new(to, PaxosMsg::Prepare(prep), Source::Nothing, 0)
 }
 
 // The session is raised, its counter starts at 1, and (the departure) the remembered AcceptDecide is forgotten.
@@ -117,9 +109,9 @@ fn new_session(s: SequencePaxos, to: u64) -> SequencePaxos
     ensures value { result ≡ new_session to s }
     ensures room_2 { Room result }
 {
-    let s1 = increment_seq_num_session(s, to);
-    let s2 = next_seq_num(s1, to);
-    set_latest_accept_meta(s2, to, None)
+    let s = increment_seq_num_session(s, to);
+    let s = next_seq_num(s, to);
+    set_latest_accept_meta(s, to, None)
 }
 
 #[tactic(auto, unfolding(crate::specs::Sends::push_acc_sync))]
@@ -129,22 +121,14 @@ fn push_accsync(s: SequencePaxos, to: u64, from: usize) -> SequencePaxos
     ensures value { result ≡ push_acc_sync from to s }
     ensures room_2 { Room result }
 {
-    let l = s.leader_state;
-    let n = l.n_leader;
-    let seq_num = l.get_seq_num(to);
     let acc_sync = AcceptSync {
-        n,
-        seq_num,
+        n: s.leader_state.n_leader,
+        seq_num: s.leader_state.get_seq_num(to),
         decided_idx: s.internal_storage.decided_idx,
         sync_idx: from,
     };
     let count = suffix_length(s.internal_storage.accepted_idx, from);
-    s.push_send(Send {
-        to,
-        what: Sent::New(PaxosMsg::AcceptSync(acc_sync)),
-        source: Source::Log(from),
-        count,
-    })
+    s.send_new(to, PaxosMsg::AcceptSync(acc_sync), Source::Log(from), count)
 }
 
 #[tactic(auto, unfolding(crate::specs::Sends::send_acc_sync))]
@@ -155,12 +139,9 @@ fn send_accsync_from(s: SequencePaxos, to: u64, follower: PromiseMetaData) -> Se
     ensures room_2 { Room result }
 {
     let l = s.leader_state;
-    let current_n = l.n_leader;
-    let best = l.max_promise;
-    let from = follower.sync_start(current_n, best.meta);
-    let s1 = check_log_sync(s, from);
-    let s2 = new_session(s1, to);
-    push_accsync(s2, to, from)
+    let from = follower.sync_start(l.n_leader, l.max_promise.meta);
+    let s = check_log_sync(s, from);
+    push_accsync(new_session(s, to), to, from)
 }
 
 // A depot that has promised is synced from where its promise says.
@@ -171,12 +152,9 @@ pub fn send_accsync(s: SequencePaxos, to: u64) -> SequencePaxos
     ensures value { result ≡ acc_sync_to to s }
     ensures room_2 { Room result }
 {
-    let l = s.leader_state;
-    let p = l.get_promise_meta(to);
-    match p {
+    match s.leader_state.get_promise_meta(to) {
         PromiseState::Promised(m) => send_accsync_from(s, to, m),
-        PromiseState::NotPromised => s,
-        PromiseState::PromisedHigher => s,
+        PromiseState::NotPromised | PromiseState::PromisedHigher => s,
     }
 }
 
@@ -186,16 +164,12 @@ fn get_latest_accdec_message(s: SequencePaxos, to: u64) -> Option<usize>
     requires { own_place to }
     ensures { result ≡ latest_accdec to s }
 {
-    let l = s.leader_state;
-    let latest = l.get_latest_accept_meta(to);
     let i = (to - 1) as usize;
-    let p = s.plan;
-    let sight = p.sight;
-    let on = sight.accdec[i];
-    if on {
-        return latest;
+    if s.plan.sight.accdec[i] {
+        s.leader_state.get_latest_accept_meta(to)
+    } else {
+        None
     }
-    None
 }
 
 // Entries and the decided index join the AcceptDecide at a position of the queue.
@@ -223,20 +197,12 @@ fn push_acceptdecide(s: SequencePaxos, to: u64, from: usize, count: usize) -> Se
     ensures value { result ≡ push_accept_decide from count to s }
     ensures room_2 { Room result }
 {
-    let l = s.leader_state;
-    let n = l.n_leader;
-    let seq_num = l.get_seq_num(to);
     let acc = AcceptDecide {
-        n,
-        seq_num,
+        n: s.leader_state.n_leader,
+        seq_num: s.leader_state.get_seq_num(to),
         decided_idx: s.internal_storage.decided_idx,
     };
-    s.push_send(Send {
-        to,
-        what: Sent::New(PaxosMsg::AcceptDecide(acc)),
-        source: Source::Log(from),
-        count,
-    })
+    s.send_new(to, PaxosMsg::AcceptDecide(acc), Source::Log(from), count)
 }
 
 // A new AcceptDecide, remembered by its position.
@@ -249,9 +215,8 @@ fn new_acceptdecide(s: SequencePaxos, to: u64, from: usize, count: usize) -> Seq
     ensures room_2 { Room result }
 {
     let at = s.next_place();
-    let s1 = set_latest_accept_meta(s, to, Some(at));
-    let s2 = next_seq_num(s1, to);
-    push_acceptdecide(s2, to, from, count)
+    let s = set_latest_accept_meta(s, to, Some(at));
+    push_acceptdecide(next_seq_num(s, to), to, from, count)
 }
 
 // Entries that joined the log at `from` go to one depot, in a remembered AcceptDecide or a new one.
@@ -263,8 +228,7 @@ pub fn send_acceptdecide(s: SequencePaxos, to: u64, from: usize, count: usize) -
     ensures value { result ≡ accept_decide_to from count to s }
     ensures room_2 { Room result }
 {
-    let latest = get_latest_accdec_message(s, to);
-    match latest {
+    match get_latest_accdec_message(s, to) {
         Some(at) => join(s, to, at, from, count),
         None => new_acceptdecide(s, to, from, count),
     }
@@ -277,20 +241,12 @@ fn push_decide(s: SequencePaxos, to: u64) -> SequencePaxos
     ensures value { result ≡ push_decide to s }
     ensures room_2 { Room result }
 {
-    let l = s.leader_state;
-    let n = l.n_leader;
-    let seq_num = l.get_seq_num(to);
     let d = Decide {
-        n,
-        seq_num,
+        n: s.leader_state.n_leader,
+        seq_num: s.leader_state.get_seq_num(to),
         decided_idx: s.internal_storage.decided_idx,
     };
-    s.push_send(Send {
-        to,
-        what: Sent::New(PaxosMsg::Decide(d)),
-        source: Source::Nothing,
-        count: 0,
-    })
+    s.send_new(to, PaxosMsg::Decide(d), Source::Nothing, 0)
 }
 
 // The decided index goes to one depot, in a remembered AcceptDecide or a Decide.
@@ -301,8 +257,7 @@ pub fn send_decide(s: SequencePaxos, to: u64) -> SequencePaxos
     ensures value { result ≡ decide_to to s }
     ensures room_2 { Room result }
 {
-    let latest = get_latest_accdec_message(s, to);
-    match latest {
+    match get_latest_accdec_message(s, to) {
         Some(at) => join(s, to, at, 0, 0),
         None => push_decide(next_seq_num(s, to), to),
     }
@@ -314,15 +269,8 @@ pub fn send_preparereq(s: SequencePaxos, to: u64) -> SequencePaxos
     ensures value { result ≡ send_prepare_req to s }
     ensures room { Room result }
 {
-    let t = s.internal_storage;
-    let n = t.promise;
-    let prepreq = PrepareReq { n };
-    s.push_send(Send {
-        to,
-        what: Sent::New(PaxosMsg::PrepareReq(prepreq)),
-        source: Source::Nothing,
-        count: 0,
-    })
+    let prepreq = PrepareReq { n: s.internal_storage.promise };
+    s.send_new(to, PaxosMsg::PrepareReq(prepreq), Source::Nothing, 0)
 }
 
 fn send_one(s: SequencePaxos, what: Each, to: u64) -> SequencePaxos
@@ -341,19 +289,6 @@ fn send_one(s: SequencePaxos, what: Each, to: u64) -> SequencePaxos
     }
 }
 
-fn send_turn(s: SequencePaxos, what: Each, on: bool, to: u64) -> SequencePaxos
-    requires room { Room s }
-    requires own_place { own_place to }
-    requires few_entries { few_entries what }
-    ensures value { result ≡ turn_of what on to s }
-    ensures room_2 { Room result }
-{
-    if on {
-        return send_one(s, what, to);
-    }
-    s
-}
-
 // To each depot whose place is marked, in rising order.
 #[tactic(auto, unfolding(crate::specs::Sends::for_marked))]
 pub fn send_each(s: SequencePaxos, what: Each, marks: [bool; 7]) -> SequencePaxos
@@ -362,15 +297,11 @@ pub fn send_each(s: SequencePaxos, what: Each, marks: [bool; 7]) -> SequencePaxo
     ensures value { result ≡ for_marked marks what s.config.depots s }
     ensures room_2 { Room result }
 {
-    let c = s.config;
-    let end = c.depots;
     let mut b = s;
-    let mut pid: u64 = 0;
-    while pid < end {
-        let i = pid as usize;
-        let on = marks[i];
-        pid += 1;
-        b = send_turn(b, what, on, pid);
+    for i in 0..s.config.depots {
+        if marks[i as usize] {
+            b = send_one(b, what, i + 1);
+        }
     }
     b
 }
@@ -381,14 +312,9 @@ pub fn peers(c: Configuration) -> [bool; 7]
     requires { c.depots ≤ max_depots }
     ensures { result ≡ peers_of c }
 {
-    let own = c.pid;
-    let end = c.depots;
     let mut marks = [false; 7];
-    let mut pid: u64 = 0;
-    while pid < end {
-        let i = pid as usize;
-        pid += 1;
-        marks[i] = pid != own;
+    for i in 0..c.depots {
+        marks[i as usize] = i + 1 != c.pid;
     }
     marks
 }
