@@ -1,5 +1,5 @@
 -- What a box sends to one depot, and to each of several. Each function takes the box last.
-use Rattle.std.specs.Prelude.{ℕ, zero, suc, ◌+◌, ◌-◌, ◌≤◌, Bool, true, false, cond, not, List, ltb, leb, eqb, get_or, Option, None, Some}
+use Rattle.std.specs.Prelude.{ℕ, zero, suc, ◌-◌, ◌≤◌, Bool, true, false, cond, not, List, ltb, leb, eqb, get_or, Option, None, Some}
 use Rattle.base.specs.Limits.{largest}
 use Rattle.leader_state.specs.declared.Depot.{Depot}
 use Rattle.leader_state.specs.declared.PromiseMetaData.{PromiseMetaData}

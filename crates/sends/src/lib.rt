@@ -269,7 +269,9 @@ pub fn send_preparereq(s: SequencePaxos, to: u64) -> SequencePaxos
     ensures value { result ≡ send_prepare_req to s }
     ensures room { Room result }
 {
-    let prepreq = PrepareReq { n: s.internal_storage.promise };
+    let prepreq = PrepareReq {
+        n: s.internal_storage.promise,
+    };
     s.send_new(to, PaxosMsg::PrepareReq(prepreq), Source::Nothing, 0)
 }
 
@@ -290,7 +292,7 @@ fn send_one(s: SequencePaxos, what: Each, to: u64) -> SequencePaxos
 }
 
 // To each depot whose place is marked, in rising order.
-#[tactic(auto, unfolding(crate::specs::Sends::for_marked))]
+#[tactic(auto, using(crate::proofs::Turns::marked_turn), unfolding(crate::specs::Sends::for_marked))]
 pub fn send_each(s: SequencePaxos, what: Each, marks: [bool; 7]) -> SequencePaxos
     requires room { Room s }
     requires few_entries { few_entries what }
