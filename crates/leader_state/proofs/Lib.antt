@@ -1,3 +1,4 @@
 -- The laws of `leader_state`.
 pub mod Chosen
 pub mod Past
+pub mod Rows

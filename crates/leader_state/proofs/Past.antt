@@ -2,14 +2,12 @@
 use Prim.Native.Nat.{ℕ, ◌+◌, ◌-◌, ◌≤◌, ◌<◌}
 use mathlib.Core.Path.{◌≡◌, refl, ap}
 use mathlib.Core.Bool.{Bool, true, false, cond}
-use mathlib.Core.List.{List}
 use native.Mathlib.Omega.{arith}
 use lib.Dec.{ltb}
-use lib.ListN.{length, get_or, set, take}
+use lib.ListN.{length, get_or, take}
 use lib.Seq.{get_or-set_other, get_or-take, ext_get_or}
 use borrow.Author.Tests.{ltb-true}
 use Rattle.base.specs.Count.{count, most}
-use Rattle.base.specs.Lists.{tabulate}
 use Rattle.base.proofs.Lists.{on-first-past, length-tabulate, get_d_tabulate}
 use Rattle.ballot.specs.declared.Ballot.{Ballot}
 use Rattle.leader_state.specs.declared.Depot.{Depot}

@@ -1,5 +1,5 @@
 -- Promises: which stands, which is the best, when a read quorum has promised, and where a follower's sync starts.
-use Rattle.std.specs.Prelude.{ℕ, min, Bool, true, false, cond, List, take, ltb, Option, None}
+use Rattle.std.specs.Prelude.{ℕ, min, Bool, true, false, cond, take, ltb, Option, None}
 use Rattle.base.specs.Count.{count, most}
 use Rattle.ballot.specs.Ballot.{compare_of, same}
 use Rattle.leader_state.specs.declared.LogSync.{LogSync}
@@ -11,7 +11,6 @@ use Rattle.quorum.specs.declared.Configuration.{Configuration}
 use Rattle.leader_state.specs.declared.PromiseMetaData.{PromiseMetaData}
 use Rattle.leader_state.specs.declared.PromiseState.{PromiseState}
 use Rattle.leader_state.specs.declared.PromiseState.TheVariants.{NotPromised, Promised, PromisedHigher}
-use Rattle.leader_state.specs.declared.Depot.{Depot}
 use Rattle.leader_state.specs.declared.MaxPromise.{MaxPromise}
 use Rattle.leader_state.specs.declared.LeaderState.{LeaderState}
 use Rattle.leader_state.specs.declared.SetPromise.{SetPromise}

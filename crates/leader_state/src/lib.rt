@@ -1,20 +1,20 @@
 // What a leader keeps of each depot, and the best promise (LeaderState of util.rs).
 #![tactic(auto)]
 
-ghost use Rattle.std.specs.Prelude.{◌≡◌, ◌+◌, ◌≤◌, ◌<◌, max, min};
+ghost use Rattle.std.specs.Prelude.{◌≡◌, ◌-◌, ◌≤◌, ◌<◌, take};
 ghost use Rattle.base.specs.Limits.{max_depots, largest};
-ghost use Rattle.base.specs.Count.{one};
 ghost use Rattle.leader_state.specs.State.{own_place, depot_of, with_depot, set_accepted, set_promise_state, set_latest, next_session, next_counter, fresh, no_best, with_of, forget_all};
 ghost use Rattle.leader_state.specs.Promises.{is_promised, decided_state, beats, beats_best, best_after, set_promise_of, take_sync, sync_start, max_decided, promised_count};
 ghost use Rattle.leader_state.specs.Places.{accepted_at, chosen, is_preparable, is_follower, is_peer, promised_followers, preparable_peers};
 
 use ballot::Ballot;
-use std::cmp::Ordering;
+use base::MAX_DEPOTS;
 use quorum::Configuration;
 use sequence::SequenceNumber;
+use std::array::from_fn;
 
 // A promise without the log update.
-#[derive(Clone, Copy)]
+#[derive(Clone, Copy, Debug, PartialEq, Eq, Default)]
 pub struct PromiseMetaData {
     pub n_accepted: Ballot,
     pub accepted_idx: usize,
@@ -22,15 +22,16 @@ pub struct PromiseMetaData {
     pub pid: u64,
 }
 
-#[derive(Clone, Copy)]
+#[derive(Clone, Copy, Debug, PartialEq, Eq, Default)]
 pub enum PromiseState {
+    #[default]
     NotPromised,
     Promised(PromiseMetaData),
     PromisedHigher,
 }
 
 // One depot's place: its promise, the last number sent to it, its reported accepted index, its remembered AcceptDecide.
-#[derive(Clone, Copy)]
+#[derive(Clone, Copy, Debug, PartialEq, Eq, Default)]
 pub struct Depot {
     pub promise: PromiseState,
     pub seq_num: SequenceNumber,
@@ -39,54 +40,47 @@ pub struct Depot {
 }
 
 // A log sync whose entries lie in a lent buffer: where it starts, and how many they are.
-#[derive(Clone, Copy)]
+#[derive(Clone, Copy, Debug, PartialEq, Eq)]
 pub struct LogSync {
     pub sync_idx: usize,
     pub len: usize,
 }
 
 // The best promise and the log sync that came with it.
-#[derive(Clone, Copy)]
+#[derive(Clone, Copy, Debug, PartialEq, Eq, Default)]
 pub struct MaxPromise {
     pub meta: PromiseMetaData,
     pub sync: Option<LogSync>,
 }
 
 // The depots of pid 1 up lie at the places 0 up. Places past the configuration's depots are neither read nor changed.
-#[derive(Clone, Copy)]
+#[derive(Clone, Copy, Debug, PartialEq, Eq)]
 pub struct LeaderState {
     pub n_leader: Ballot,
-    pub depots: [Depot; 7],
+    pub depots: [Depot; MAX_DEPOTS as usize],
     pub max_promise: MaxPromise,
 }
 
-#[derive(Clone, Copy)]
+// Kept, and no Option: the state stands whether or not a quorum is reached (`set_promise_of` of specs/).
+#[derive(Clone, Copy, Debug, PartialEq, Eq)]
 pub struct SetPromise {
     pub state: LeaderState,
     pub reached: bool,
 }
 
-fn larger(a: usize, b: usize) -> usize
-    ensures { result ≡ max a b }
+// Where the depot of this pid stands in the row.
+fn place(pid: u64) -> usize
+    requires { own_place pid }
+    ensures { result ≡ pid - 1 }
 {
-    if a < b { b } else { a }
-}
-
-fn smaller(a: usize, b: usize) -> usize
-    ensures { result ≡ min a b }
-{
-    if a < b { a } else { b }
+    (pid - 1) as usize
 }
 
 impl PromiseState {
     pub fn is_promised(self) -> bool
         ensures { result ≡ is_promised self }
     {
-        match self {
-            PromiseState::Promised(_) => true,
-            PromiseState::NotPromised => false,
-            PromiseState::PromisedHigher => false,
-        }
+        matches!(self, PromiseState::Promised(_))
     }
 
     fn decided(self) -> usize
@@ -94,35 +88,24 @@ impl PromiseState {
     {
         match self {
             PromiseState::Promised(m) => m.decided_idx,
-            PromiseState::NotPromised => 0,
-            PromiseState::PromisedHigher => 0,
+            _ => 0,
         }
     }
 
     fn is_not_promised(self) -> bool
         ensures { result ≡ is_preparable self }
     {
-        match self {
-            PromiseState::Promised(_) => false,
-            PromiseState::NotPromised => true,
-            PromiseState::PromisedHigher => false,
-        }
+        matches!(self, PromiseState::NotPromised)
     }
 }
 
 impl PromiseMetaData {
     // A higher accepted round, or an equal one and a higher accepted index. A tie beats nothing, so the first stays.
-    #[tactic(auto, unfolding(crate::specs::Promises::beats))]
+    #[tactic(auto, unfolding(ballot::specs::Ballot::compare_of, crate::specs::Promises::beats))]
     pub fn beats(self, best: PromiseMetaData) -> bool
         ensures { result ≡ beats self best }
     {
-        let a = self.n_accepted;
-        let b = best.n_accepted;
-        match a.compare(b) {
-            Ordering::Greater => true,
-            Ordering::Equal => best.accepted_idx < self.accepted_idx,
-            Ordering::Less => false,
-        }
+        (self.n_accepted, self.accepted_idx) > (best.n_accepted, best.accepted_idx)
     }
 
     // Where the sync of a depot that reported this starts, for the leader's ballot n and its best promise (send_accsync).
@@ -130,87 +113,41 @@ impl PromiseMetaData {
     pub fn sync_start(self, n: Ballot, best: PromiseMetaData) -> usize
         ensures { result ≡ sync_start n best self }
     {
-        let theirs = self.n_accepted;
-        if theirs.same(n) {
-            return self.accepted_idx;
+        if self.n_accepted.same(n) {
+            self.accepted_idx
+        } else if self.n_accepted.same(best.n_accepted) {
+            best.accepted_idx.min(self.accepted_idx)
+        } else {
+            self.decided_idx
         }
-        let highest = best.n_accepted;
-        if theirs.same(highest) {
-            return smaller(best.accepted_idx, self.accepted_idx);
-        }
-        self.decided_idx
     }
 }
 
-fn as_one(b: bool) -> u64
-    ensures value { result ≡ one b }
-    ensures upper_bound { result ≤ 1 }
-{
-    if b { 1 } else { 0 }
-}
-
+// Kept beside their derives, here and below: public functions whose promises other crates and pins_rules name.
 impl MaxPromise {
     pub fn none() -> MaxPromise
         ensures { result ≡ no_best }
     {
-        let n_accepted = Ballot::default();
-        let meta = PromiseMetaData {
-            n_accepted,
-            accepted_idx: 0,
-            decided_idx: 0,
-            pid: 0,
-        };
-        MaxPromise {
-            meta,
-            sync: None,
-        }
+        Default::default()
     }
 }
 
 impl Depot {
-    fn with_latest(self, latest: Option<usize>) -> Depot
-        ensures { result ≡ set_latest latest self }
-    {
-        let promise = self.promise;
-        let seq_num = self.seq_num;
-        let accepted_idx = self.accepted_idx;
-        Depot {
-            promise,
-            seq_num,
-            accepted_idx,
-            latest,
-        }
-    }
-
     pub fn fresh() -> Depot
         ensures { result ≡ fresh }
     {
-        Depot {
-            promise: PromiseState::NotPromised,
-            seq_num: SequenceNumber {
-                session: 0,
-                counter: 0,
-            },
-            accepted_idx: 0,
-            latest: None,
-        }
+        Default::default()
     }
 }
 
 impl LeaderState {
     // A new leader's record: each depot's place as fresh, no best promise. Places past the depots stay.
-    #[tactic(auto, unfolding(base::specs::Lists::on_first, crate::specs::State::with_of))]
-    pub fn with(mut self, n_leader: Ballot, c: Configuration) -> LeaderState
+    pub fn with(self, n_leader: Ballot, c: Configuration) -> LeaderState
         requires { c.depots ≤ max_depots }
         ensures { result ≡ with_of n_leader c.depots self }
     {
-        let end = c.depots as usize;
         let mut depots = self.depots;
-        let mut i: usize = 0;
-        while i < end {
-            depots[i] = Depot::fresh();
-            i += 1;
-        }
+        depots[..c.depots as usize].fill(Depot::fresh());
         LeaderState {
             n_leader,
             depots,
@@ -219,31 +156,23 @@ impl LeaderState {
     }
 
     // A drain forgets every remembered AcceptDecide.
-    #[tactic(auto, unfolding(base::specs::Lists::on_first, crate::specs::State::forget_all))]
-    pub fn reset_latest_accept_meta(mut self, c: Configuration) -> LeaderState
+    #[tactic(auto, unfolding(base::specs::Lists::on_first))]
+    pub fn reset_latest_accept_meta(self, c: Configuration) -> LeaderState
         requires { c.depots ≤ max_depots }
         ensures { result ≡ forget_all c.depots self }
     {
-        let end = c.depots as usize;
         let mut depots = self.depots;
-        let mut i: usize = 0;
-        while i < end {
-            let d = depots[i];
-            depots[i] = d.with_latest(None);
-            i += 1;
+        for d in &mut depots[..c.depots as usize] {
+            d.latest = None;
         }
-        self.depots = depots;
-        self
+        LeaderState { depots, ..self }
     }
 
     pub fn set_accepted_idx(mut self, pid: u64, idx: usize) -> LeaderState
         requires { own_place pid }
         ensures { result ≡ with_depot pid (set_accepted idx) self }
     {
-        let i = (pid - 1) as usize;
-        let mut d = self.depots[i];
-        d.accepted_idx = idx;
-        self.depots[i] = d;
+        self.depots[place(pid)].accepted_idx = idx;
         self
     }
 
@@ -253,15 +182,11 @@ impl LeaderState {
         requires seq_num_bound { (depot_of pid self).seq_num.session < largest }
         ensures { result ≡ with_depot pid next_session self }
     {
-        let i = (pid - 1) as usize;
-        let mut d = self.depots[i];
-        let session = d.seq_num.session + 1;
-        let q = SequenceNumber {
-            session,
+        let seq_num = &mut self.depots[place(pid)].seq_num;
+        *seq_num = SequenceNumber {
+            session: seq_num.session + 1,
             counter: 0,
         };
-        d.seq_num = q;
-        self.depots[i] = d;
         self
     }
 
@@ -271,13 +196,7 @@ impl LeaderState {
         requires seq_num_bound { (depot_of pid self).seq_num.counter < largest }
         ensures { result ≡ with_depot pid next_counter self }
     {
-        let i = (pid - 1) as usize;
-        let mut d = self.depots[i];
-        let counter = d.seq_num.counter + 1;
-        let session = d.seq_num.session;
-        let q = SequenceNumber { session, counter };
-        d.seq_num = q;
-        self.depots[i] = d;
+        self.depots[place(pid)].seq_num.counter += 1;
         self
     }
 
@@ -285,9 +204,7 @@ impl LeaderState {
         requires { own_place pid }
         ensures { result ≡ with_depot pid (set_latest latest) self }
     {
-        let i = (pid - 1) as usize;
-        let d = self.depots[i];
-        self.depots[i] = d.with_latest(latest);
+        self.depots[place(pid)].latest = latest;
         self
     }
 
@@ -295,21 +212,11 @@ impl LeaderState {
         requires { own_place pid }
         ensures { result ≡ with_depot pid (set_promise_state promise) self }
     {
-        let i = (pid - 1) as usize;
-        let d = self.depots[i];
-        let seq_num = d.seq_num;
-        let latest = d.latest;
-        let accepted_idx = d.accepted_idx;
-        self.depots[i] = Depot {
-            promise,
-            seq_num,
-            accepted_idx,
-            latest,
-        };
+        self.depots[place(pid)].promise = promise;
         self
     }
 
-    pub fn reset_promise(mut self, pid: u64) -> LeaderState
+    pub fn reset_promise(self, pid: u64) -> LeaderState
         requires { own_place pid }
         ensures { result ≡ with_depot pid (set_promise_state PromiseState.NotPromised) self }
     {
@@ -317,7 +224,7 @@ impl LeaderState {
     }
 
     // The depot was seen with a ballot above the leader's.
-    pub fn lost_promise(mut self, pid: u64) -> LeaderState
+    pub fn lost_promise(self, pid: u64) -> LeaderState
         requires { own_place pid }
         ensures { result ≡ with_depot pid (set_promise_state PromiseState.PromisedHigher) self }
     {
@@ -329,58 +236,56 @@ impl LeaderState {
         requires { own_place pid }
         ensures { result ≡ depot_of pid self }
     {
-        let i = (pid - 1) as usize;
-        self.depots[i]
+        self.depots[place(pid)]
     }
 
     pub fn get_seq_num(self, pid: u64) -> SequenceNumber
         requires { own_place pid }
         ensures { result ≡ (depot_of pid self).seq_num }
     {
-        let d = self.get_depot(pid);
-        d.seq_num
+        self.depots[place(pid)].seq_num
     }
 
     pub fn get_promise_meta(self, pid: u64) -> PromiseState
         requires { own_place pid }
         ensures { result ≡ (depot_of pid self).promise }
     {
-        let d = self.get_depot(pid);
-        d.promise
+        self.depots[place(pid)].promise
     }
 
     pub fn get_latest_accept_meta(self, pid: u64) -> Option<usize>
         requires { own_place pid }
         ensures { result ≡ (depot_of pid self).latest }
     {
-        let d = self.get_depot(pid);
-        d.latest
+        self.depots[place(pid)].latest
     }
 
     // Whether a promise beats the best so far.
     pub fn beats_best(self, m: PromiseMetaData) -> bool
         ensures { result ≡ beats_best m self }
     {
-        let best = self.max_promise;
-        m.beats(best.meta)
+        m.beats(self.max_promise.meta)
     }
 
-    fn best_after(self, m: PromiseMetaData, sync: Option<LogSync>, check_max_prom: bool) -> MaxPromise
+    fn best_after(
+        self,
+        m: PromiseMetaData,
+        sync: Option<LogSync>,
+        check_max_prom: bool,
+    ) -> MaxPromise
         ensures { result ≡ best_after m sync check_max_prom self }
     {
-        if check_max_prom {
-            if self.beats_best(m) {
-                return MaxPromise { meta: m, sync };
-            }
-            return self.max_promise;
+        if check_max_prom && self.beats_best(m) {
+            MaxPromise { meta: m, sync }
+        } else {
+            self.max_promise
         }
-        self.max_promise
     }
 
     // The promise is kept at its depot's place and, where `check_max_prom` is set and it beats the best, becomes the best with its sync.
     // Told as well: whether a read quorum has promised.
     pub fn set_promise(
-        mut self,
+        self,
         m: PromiseMetaData,
         sync: Option<LogSync>,
         check_max_prom: bool,
@@ -390,79 +295,56 @@ impl LeaderState {
         requires depots_le_max_depots { c.depots ≤ max_depots }
         ensures { result ≡ set_promise_of c m sync check_max_prom self }
     {
-        let pid = m.pid;
-        let best = self.best_after(m, sync, check_max_prom);
-        let mut s = self.put_promise(pid, PromiseState::Promised(m));
-        s.max_promise = best;
-        let n = s.count_promised(c);
-        let q = c.quorum;
-        let reached = q.is_prepare_quorum(n);
-        SetPromise { state: s, reached }
+        let max_promise = self.best_after(m, sync, check_max_prom);
+        let mut state = self.put_promise(m.pid, PromiseState::Promised(m));
+        state.max_promise = max_promise;
+        let reached = c.quorum.is_prepare_quorum(state.count_promised(c));
+        SetPromise { state, reached }
     }
 
     // The held sync is taken out; the best promise stays.
     pub fn take_max_promise_sync(mut self) -> LeaderState
         ensures { result ≡ take_sync self }
     {
-        let best = self.max_promise;
-        let meta = best.meta;
-        let next = MaxPromise {
-            meta,
-            sync: None,
-        };
-        self.max_promise = next;
+        self.max_promise.sync = None;
         self
     }
 
-    #[tactic(auto, unfolding(base::specs::Count::count, crate::specs::Promises::promised_count))]
-    fn count_promised(self, c: Configuration) -> u64
+    // The places of the depots.
+    fn row(&self, c: Configuration) -> &[Depot]
         requires { c.depots ≤ max_depots }
-        ensures { result ≡ promised_count c.depots self }
+        ensures { result.now ≡ take c.depots self.now.depots }
     {
-        let end = c.depots as usize;
-        let mut n: u64 = 0;
-        let mut i: usize = 0;
-        while i < end {
-            let d = self.depots[i];
-            let p = d.promise;
-            n += as_one(p.is_promised());
-            i += 1;
-        }
-        n
+        &self.depots[..c.depots as usize]
+    }
+
+    fn count_promised(&self, c: Configuration) -> u64
+        requires { c.depots ≤ max_depots }
+        ensures { result ≡ promised_count c.depots self.now }
+    {
+        self.row(c)
+            .iter()
+            .filter(|d| d.promise.is_promised())
+            .count() as u64
     }
 
     // The highest decided index of the promises that stand, 0 where none does.
-    #[tactic(auto, unfolding(base::specs::Count::most, crate::specs::Promises::max_decided))]
     pub fn get_max_decided_idx(self, c: Configuration) -> usize
         requires { c.depots ≤ max_depots }
         ensures { result ≡ max_decided c.depots self }
     {
-        let end = c.depots as usize;
-        let mut best: usize = 0;
-        let mut i: usize = 0;
-        while i < end {
-            let d = self.depots[i];
-            let p = d.promise;
-            best = larger(best, p.decided());
-            i += 1;
-        }
-        best
+        self.row(c)
+            .iter()
+            .map(|d| d.promise.decided())
+            .max()
+            .unwrap_or(0)
     }
 
-    #[tactic(auto, unfolding(base::specs::Count::count, crate::specs::Places::accepted_at))]
-    fn count_accepted(self, idx: usize, c: Configuration) -> u64
+    fn count_accepted(&self, idx: usize, c: Configuration) -> u64
         requires { c.depots ≤ max_depots }
-        ensures { result ≡ accepted_at idx c.depots self }
+        ensures { result ≡ accepted_at idx c.depots self.now }
     {
-        let end = c.depots as usize;
-        let mut n: u64 = 0;
-        let mut i: usize = 0;
-        while i < end {
-            let d = self.depots[i];
-            n += as_one(idx <= d.accepted_idx);
-            i += 1;
-        }
-        n
+        self.row(c).iter().filter(|d| idx <= d.accepted_idx).count() as u64
     }
 
     // Whether a write quorum of depots has reported an accepted index of at least idx.
@@ -470,70 +352,40 @@ impl LeaderState {
         requires { c.depots ≤ max_depots }
         ensures { result ≡ chosen idx c self }
     {
-        let n = self.count_accepted(idx, c);
-        let q = c.quorum;
-        q.is_accept_quorum(n)
+        c.quorum.is_accept_quorum(self.count_accepted(idx, c))
     }
 
     // A depot that promised this leader and is not the leader itself.
     #[tactic(auto, unfolding(crate::specs::Places::is_follower))]
-    fn is_promised_follower(self, pid: u64) -> bool
+    fn is_promised_follower(&self, pid: u64) -> bool
         requires { own_place pid }
-        ensures { result ≡ is_follower pid self }
+        ensures { result ≡ is_follower pid self.now }
     {
-        let n = self.n_leader;
-        if pid == n.pid {
-            return false;
-        }
-        let p = self.get_promise_meta(pid);
-        p.is_promised()
+        pid != self.n_leader.pid && self.depots[place(pid)].promise.is_promised()
     }
 
     // A mark for each place: the depot there is a promised follower.
-    #[tactic(auto, unfolding(base::specs::Lists::tabulate, crate::specs::Places::promised_followers))]
-    pub fn get_promised_followers(self, c: Configuration) -> [bool; 7]
+    pub fn get_promised_followers(self, c: Configuration) -> [bool; MAX_DEPOTS as usize]
         requires { c.depots ≤ max_depots }
         ensures { result ≡ promised_followers c.depots self }
     {
-        let end = c.depots;
-        let mut marks = [false; 7];
-        let mut pid: u64 = 0;
-        while pid < end {
-            let i = pid as usize;
-            pid += 1;
-            marks[i] = self.is_promised_follower(pid);
-        }
-        marks
+        from_fn(|i| (i as u64) < c.depots && self.is_promised_follower(i as u64 + 1))
     }
 
     // Another depot that has not promised, this leader or a higher one.
     #[tactic(auto, unfolding(crate::specs::Places::is_peer))]
-    fn is_preparable_peer(self, pid: u64, own: u64) -> bool
+    fn is_preparable_peer(&self, pid: u64, own: u64) -> bool
         requires { own_place pid }
-        ensures { result ≡ is_peer own pid self }
+        ensures { result ≡ is_peer own pid self.now }
     {
-        if pid == own {
-            return false;
-        }
-        let p = self.get_promise_meta(pid);
-        p.is_not_promised()
+        pid != own && self.depots[place(pid)].promise.is_not_promised()
     }
 
     // A mark for each place: the depot there is another one and has not promised, neither this leader nor a higher one.
-    #[tactic(auto, unfolding(base::specs::Lists::tabulate, crate::specs::Places::preparable_peers))]
-    pub fn get_preparable_peers(self, c: Configuration) -> [bool; 7]
+    pub fn get_preparable_peers(self, c: Configuration) -> [bool; MAX_DEPOTS as usize]
         requires { c.depots ≤ max_depots }
         ensures { result ≡ preparable_peers c.pid c.depots self }
     {
-        let own = c.pid;
-        let end = c.depots;
-        let mut marks = [false; 7];
-        let mut pid: u64 = 0;
-        while pid < end {
-            let i = pid as usize;
-            pid += 1;
-            marks[i] = self.is_preparable_peer(pid, own);
-        }
-        marks
+        from_fn(|i| (i as u64) < c.depots && self.is_preparable_peer(i as u64 + 1, c.pid))
     }
 }

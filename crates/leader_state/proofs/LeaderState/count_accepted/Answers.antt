@@ -1,11 +1,11 @@
--- `LeaderState::count_accepted` meets its contract: the count so far is of the places passed.
-use Rattle.leader_state.specs.State.{fresh}
-use Rattle.base.specs.Count.{count-step}
-use lib.ListN.{length}
-use borrow.Author.Rules.{rules}
-use Prim.Native.Nat.{◌<◌, ◌-◌}
+-- `LeaderState::count_accepted` meets its contract: the library's count is the count of the specs.
+use Rattle.std.proofs.Common.{◌≡◌, ◌∙◌, take, count_by, leb, rules}
+use Rattle.leader_state.specs.Places.{accepted_at}
+use Rattle.leader_state.proofs.Rows.{count_by-count}
 use Rattle.leader_state.proofs.LeaderState.count_accepted.Goals as goal
 
-pub loop-i-preserved : goal.loop-i-preserved
-loop-i-preserved c = let h : c.loop-i.i < length c.args.self.depots = search rules in
-    (search rules, search rules, search rules, search rules, count-step fresh _ _ _ _ _ c.loop-i.invariant.4 c.as_one-n.ensures.value h)
+pub returns : goal.returns
+unfolding accepted_at
+returns c =
+    let e : c.count.result ≡ count_by (λ d. leb c.args.idx d.accepted_idx) (take c.args.c.depots c.args.self.now.depots) = search rules in
+    e ∙ count_by-count _ _

@@ -1,13 +1,11 @@
--- `LeaderState::count_promised` meets its contract: the count so far is of the places passed.
-use Rattle.leader_state.specs.Promises.{is_promised}
-use Rattle.leader_state.specs.State.{fresh}
-use Rattle.base.specs.Count.{one, count-step}
-use lib.ListN.{length}
-use borrow.Author.Rules.{rules}
-use mathlib.Core.Path.{◌∙◌, ap}
-use Prim.Native.Nat.{◌<◌, ◌-◌}
+-- `LeaderState::count_promised` meets its contract: the library's count is the count of the specs.
+use Rattle.std.proofs.Common.{◌≡◌, ◌∙◌, take, count_by, rules}
+use Rattle.leader_state.specs.Promises.{is_promised, promised_count}
+use Rattle.leader_state.proofs.Rows.{count_by-count}
 use Rattle.leader_state.proofs.LeaderState.count_promised.Goals as goal
 
-pub loop-i-preserved : goal.loop-i-preserved
-loop-i-preserved c = let h : c.loop-i.i < length c.args.self.depots = search rules in
-    (search rules, search rules, search rules, search rules, count-step fresh _ _ _ _ _ c.loop-i.invariant.4 (c.as_one-n.ensures.value ∙ ap one c.is_promised.ensures) h)
+pub returns : goal.returns
+unfolding promised_count
+returns c =
+    let e : c.count.result ≡ count_by (λ d. is_promised d.promise) (take c.args.c.depots c.args.self.now.depots) = search rules in
+    e ∙ count_by-count _ _
