@@ -1,10 +1,11 @@
 -- What each call gives: the answer and everything lent. Refusals stand in the order of R2.0 (docs/RULES.md), and each leaves all as found.
-use Rattle.std.specs.Prelude.{ℕ, ◌≤◌, ◌≡◌, cond, List, [], ◌∷◌, ◌++◌, length, take, drop, ltb}
+use Rattle.std.specs.Prelude.{ℕ, ◌≤◌, ◌≡◌, cond, List, [], ◌∷◌, ◌++◌, length, take, drop, ltb, Result, Ok, Err}
+use Rattle.base.specs.Refusal.{number_of}
+use Rattle.base.specs.declared.Refusal.{Refusal}
 use Rattle.page.specs.Page.{report_bytes}
 use Rattle.hire_book.specs.Book.{broken_of, fresh_book}
 use Rattle.hire_book.specs.Step.{wrong_length, of_sound}
-use Rattle.report.specs.declared.Fed.{Fed}
-use Rattle.report.specs.declared.Finished.{Finished}
+use Rattle.report.specs.declared.Reader.{Reader}
 use Rattle.report.specs.Reading.{Reading, reading, fresh_reader, feed_of, last_of, output_of}
 
 -- what a caller sees of a part that was fed
@@ -12,8 +13,10 @@ pub record SeenFed : Type 0 where
   pub answer : ℕ
   pub reading : Reading
 
-abbrev pub seen_fed : Fed → List ℕ → SeenFed
-seen_fed r book = record { answer = r.answer; reading = reading r.reader book }
+-- refused, the caller goes on with the reader that it passed
+abbrev pub seen_fed : Result Reader Refusal → Reader → List ℕ → SeenFed
+seen_fed (Ok after) reader book = record { answer = 0; reading = reading after book }
+seen_fed (Err refusal) reader book = record { answer = number_of refusal; reading = reading reader book }
 
 unfoldable pub feed_step : Reading → List ℕ → SeenFed
 feed_step d part =
@@ -26,8 +29,9 @@ pub record SeenReport : Type 0 where
   pub book : List ℕ
   pub out : List ℕ
 
-abbrev pub seen_report : Finished → List ℕ → List ℕ → SeenReport
-seen_report r book out = record { answer = r.answer; count = r.count; book = book; out = out }
+abbrev pub seen_report : Result ℕ Refusal → List ℕ → List ℕ → SeenReport
+seen_report (Ok count) book out = record { answer = 0; count = count; book = book; out = out }
+seen_report (Err refusal) book out = record { answer = number_of refusal; count = 0; book = book; out = out }
 
 -- text at the start of the buffer, whose further bytes stay as found
 abbrev pub written : List ℕ → Reading → List ℕ → SeenReport

@@ -1,36 +1,43 @@
 // The report of a hire book's history (document 01, end of "The hire book"): entries read as decimal lines, in parts of any size, and the pumps with charged days written.
 #![tactic(auto)]
 
-ghost use Rattle.std.specs.Prelude.{◌≡◌, ◌≤◌, length};
+ghost use Rattle.std.specs.Prelude.{◌≡◌, ◌≤◌, length, IfOk};
 ghost use Rattle.decimal.specs.Text.{Put};
 ghost use Rattle.hire_book.specs.Book.{Sound};
-ghost use Rattle.report.specs.Reading.{fresh_reader, value_after, with_byte, line_after, next_line, marked, reading, end_of, byte_of, feed_of, last_of, output_of};
+ghost use Rattle.report.specs.Reading.{fresh_reader, held, value_after, line_after, next_line, marked, reading, end_of, byte_of, feed_of, last_of, output_of};
 ghost use Rattle.page.specs.Page.{report_bytes};
 ghost use Rattle.report.specs.Step.{seen_fed, feed_step, seen_report, Counted, finish_step};
+
+use base::Refusal;
 
 // The value of a line that no further byte makes fit.
 const UNFIT: u64 = base::MAX_ENTRY + 1;
 
-// Where a reader is: the number of the line that it reads, counted from 1; whether the line has a byte; what its digits say, above the entry limit where
-// the line is unfit; and whether the line is bad, after which all is skipped.
-#[derive(Clone, Copy)]
+// What a reader has of a line: no byte yet; what its digits say, above the entry limit where the line is unfit; or that it is bad, after which all is skipped.
+#[derive(Clone, Copy, Debug, PartialEq, Eq)]
+pub enum Line {
+    Empty,
+    Value(u64),
+    Bad,
+}
+
+// Where a reader is: the number of the line that it reads, counted from 1, and what it has of it.
+#[derive(Clone, Copy, Debug, PartialEq, Eq)]
 pub struct Reader {
     pub line: u64,
-    pub any: bool,
-    pub value: u64,
-    pub bad: bool,
+    pub state: Line,
 }
 
-#[derive(Clone, Copy)]
-pub struct Fed {
-    pub answer: u32,
-    pub reader: Reader,
-}
-
-#[derive(Clone, Copy)]
-pub struct Finished {
-    pub answer: u32,
-    pub count: usize,
+impl Line {
+    // What the digits say; 0 where there are none.
+    fn value(self) -> u64
+        ensures { result ≡ held self }
+    {
+        match self {
+            Line::Value(value) => value,
+            _ => 0,
+        }
+    }
 }
 
 // What a line's digits say with one byte more; above the entry limit it stays, so that no sum wraps.
@@ -38,16 +45,13 @@ pub struct Finished {
 fn value_after(value: u64, byte: u8) -> u64
     ensures { result ≡ value_after value byte }
 {
-    if byte < b'0' {
-        return UNFIT;
-    }
-    if b'9' < byte {
+    if !byte.is_ascii_digit() {
         return UNFIT;
     }
     if base::MAX_ENTRY < value {
         return value;
     }
-    value * 10 + (byte - b'0') as u64
+    value * 10 + u64::from(byte - b'0')
 }
 
 // The next line's number, which stays at the largest that 64 bits hold.
@@ -55,50 +59,35 @@ fn value_after(value: u64, byte: u8) -> u64
 fn line_after(line: u64) -> u64
     ensures { result ≡ line_after line }
 {
-    if line < base::LARGEST {
-        return line + 1;
-    }
-    line
+    line.saturating_add(1)
 }
 
 impl Reader {
-    pub fn fresh() -> Reader
+    pub fn fresh() -> Self
         ensures { result ≡ fresh_reader }
     {
         Reader {
             line: 1,
-            any: false,
-            value: 0,
-            bad: false,
+            state: Line::Empty,
         }
     }
 
-    // Written anew and not field by field: this runs for every byte, and so compiles to faster code.
-    fn with_byte(self, byte: u8) -> Reader
-        ensures { result ≡ with_byte byte self }
-    {
-        Reader {
-            line: self.line,
-            any: true,
-            value: value_after(self.value, byte),
-            bad: self.bad,
-        }
-    }
-
-    fn next_line(mut self) -> Reader
+    fn next_line(self) -> Self
         ensures { result ≡ next_line self }
     {
-        self.line = line_after(self.line);
-        self.any = false;
-        self.value = 0;
-        self
+        Reader {
+            line: line_after(self.line),
+            ..Reader::fresh()
+        }
     }
 
-    fn marked(mut self) -> Reader
+    fn marked(self) -> Self
         ensures { result ≡ marked self }
     {
-        self.bad = true;
-        self
+        Reader {
+            state: Line::Bad,
+            ..self
+        }
     }
 }
 
@@ -108,15 +97,13 @@ fn end_line(reader: Reader, book: &mut [u64]) -> Reader
     requires { Sound book.old }
     ensures { reading result book.new ≡ end_of (reading reader book.old) }
 {
-    let entry = reader.value;
-    if !reader.any {
-        return reader.marked();
+    match reader.state {
+        Line::Value(entry) if entry <= base::MAX_ENTRY => {
+            hire_book::apply_fit(book, entry);
+            reader.next_line()
+        }
+        _ => reader.marked(),
     }
-    if base::MAX_ENTRY < entry {
-        return reader.marked();
-    }
-    hire_book::apply_fit(book, entry);
-    reader.next_line()
 }
 
 // A byte of a line, or the line's end; after a bad line all is skipped.
@@ -125,13 +112,14 @@ fn take_byte(reader: Reader, byte: u8, book: &mut [u64]) -> Reader
     requires { Sound book.old }
     ensures { reading result book.new ≡ byte_of byte (reading reader book.old) }
 {
-    if reader.bad {
-        return reader;
+    match reader.state {
+        Line::Bad => reader,
+        _ if byte == b'\n' => end_line(reader, book),
+        state => Reader {
+            state: Line::Value(value_after(state.value(), byte)),
+            ..reader
+        },
     }
-    if byte == b'\n' {
-        return end_line(reader, book);
-    }
-    reader.with_byte(byte)
 }
 
 #[tactic(auto, unfolding(crate::specs::Reading::feed_of))]
@@ -140,30 +128,19 @@ fn take_part(reader: Reader, part: &[u8], book: &mut [u64]) -> Reader
     ensures { reading result book.new ≡ feed_of (reading reader book.old) part.now }
 {
     let mut at = reader;
-    let mut i: usize = 0;
-    while i < part.len() {
-        at = take_byte(at, part[i], book);
-        i += 1;
+    for &byte in part {
+        at = take_byte(at, byte, book);
     }
     at
 }
 
-// A part of the input, taken in order after the parts before it; refused with 1 or 2, the reader and the book stay.
+// A part of the input, taken in order after the parts before it; refused with 1 or 2, the reader that was passed goes on, and the book stays.
 #[tactic(auto, unfolding(crate::specs::Step::feed_step))]
-pub fn feed(reader: Reader, part: &[u8], book: &mut [u64]) -> Fed
-    ensures { seen_fed result book.new ≡ feed_step (reading reader book.old) part.now }
+pub fn feed(reader: Reader, part: &[u8], book: &mut [u64]) -> Result<Reader, Refusal>
+    ensures { seen_fed result reader book.new ≡ feed_step (reading reader book.old) part.now }
 {
-    if book.len() != hire_book::BOOK {
-        return Fed { answer: 1, reader };
-    }
-    if hire_book::any_broken(book) {
-        return Fed { answer: 2, reader };
-    }
-    let next = take_part(reader, part, book);
-    Fed {
-        answer: 0,
-        reader: next,
-    }
+    hire_book::check(book)?;
+    Ok(take_part(reader, part, book))
 }
 
 // The input ends: a line that has begun ends too.
@@ -172,13 +149,10 @@ fn take_last(reader: Reader, book: &mut [u64]) -> Reader
     requires { Sound book.old }
     ensures { reading result book.new ≡ last_of (reading reader book.old) }
 {
-    if reader.bad {
-        return reader;
+    match reader.state {
+        Line::Value(_) => end_line(reader, book),
+        _ => reader,
     }
-    if reader.any {
-        return end_line(reader, book);
-    }
-    reader
 }
 
 #[tactic(auto, unfolding(crate::specs::Reading::output_of))]
@@ -187,39 +161,23 @@ fn put_report(reader: Reader, book: &[u64], out: &mut [u8]) -> usize
     requires report_bytes_in_bounds { report_bytes ≤ length out.old }
     ensures { Put out.old 0 (output_of (reading reader book.now)) result out.new }
 {
-    if reader.bad {
-        let line = reader.line;
-        return page::put_bad_line(out, line);
+    match reader.state {
+        Line::Bad => page::put_bad_line(out, reader.line),
+        _ => page::put_page(out, book),
     }
-    page::put_page(out, book)
 }
 
 // The input ends, and the whole report is written to the start of `out`, whose further bytes stay as found; the answer counts its bytes. Refused with 1
 // where the book is of the wrong length or `out` is shorter than page::REPORT_BYTES, with 2 where the book is broken; then all stays.
 #[tactic(auto, unfolding(crate::specs::Step::finish_step))]
-pub fn finish(reader: Reader, book: &mut [u64], out: &mut [u8]) -> Finished
+pub fn finish(reader: Reader, book: &mut [u64], out: &mut [u8]) -> Result<usize, Refusal>
     ensures out_after { seen_report result book.new out.new ≡ finish_step (reading reader book.old) out.old }
-    ensures counted { Counted result.count out.new }
+    ensures counted { IfOk result (λ count. Counted count out.new) }
 {
-    if book.len() != hire_book::BOOK {
-        return Finished {
-            answer: 1,
-            count: 0,
-        };
-    }
     if out.len() < page::REPORT_BYTES {
-        return Finished {
-            answer: 1,
-            count: 0,
-        };
+        return Err(Refusal::WrongCall);
     }
-    if hire_book::any_broken(book) {
-        return Finished {
-            answer: 2,
-            count: 0,
-        };
-    }
+    hire_book::check(book)?;
     let last = take_last(reader, book);
-    let count = put_report(last, book, out);
-    Finished { answer: 0, count }
+    Ok(put_report(last, book, out))
 }

@@ -1,108 +1,98 @@
-// Reports of inputs that are easily got wrong, each fed whole, in parts of 3 bytes and byte by byte.
+// Reports of inputs that are easily got wrong, each fed whole and in parts of two sizes.
 #![tactic(auto)]
 
-ghost use Rattle.std.specs.Prelude.{◌≤◌, ◌<◌};
+ghost use Rattle.std.specs.Prelude.{◌≤◌, ◌<◌, length, IfOk};
 
+use base::Refusal;
 use report::Reader;
 use std::io;
 
-// The end of a part of `cut` bytes that starts at `at`, and no further than the input's end.
-fn part_end(at: usize, cut: usize, end: usize) -> usize
-    requires { at < end }
-    ensures { (at < result) × (result ≤ end) }
+// Feeds the input in parts of `cut` bytes.
+fn feed_all(input: &[u8], cut: usize, book: &mut [u64]) -> Result<Reader, Refusal>
+    requires { 0 < cut }
 {
-    if cut == 0 {
-        return end;
-    }
-    if end - at <= cut {
-        return end;
-    }
-    at + cut
-}
-
-// Feeds the input in parts of `cut` bytes, whole where that is 0, and writes its report.
-fn feed_all(input: &[u8], cut: usize, book: &mut [u64]) -> Reader {
     let mut reader = Reader::fresh();
-    let mut at: usize = 0;
-    while at < input.len() {
-        let end = part_end(at, cut, input.len());
-        let fed = report::feed(reader, &input[at..end], book);
-        reader = fed.reader;
-        at = end;
+    for part in input.chunks(cut) {
+        reader = report::feed(reader, part, book)?;
     }
-    reader
+    Ok(reader)
 }
 
-fn write_report(rt: &impl Print, input: &[u8], cut: usize) -> io::Result<()> {
+// Puts the input's report into `out`, and answers how many bytes it has.
+fn put_report(input: &[u8], cut: usize, out: &mut [u8]) -> Result<usize, Refusal>
+    requires { 0 < cut }
+    ensures { IfOk result (λ count. count ≤ length out.new) }
+{
     let mut book = [0u64; hire_book::BOOK];
+    let reader = feed_all(input, cut, &mut book)?;
+    report::finish(reader, &mut book, out)
+}
+
+fn write_report(rt: &impl Print, input: &[u8], cut: usize) -> io::Result<()>
+    requires { 0 < cut }
+{
     let mut out = [0u8; page::REPORT_BYTES];
-    let reader = feed_all(input, cut, &mut book);
-    let done = report::finish(reader, &mut book, &mut out);
-    let n = done.count;
-    rt.write_all(&out[..n])
+    match put_report(input, cut, &mut out) {
+        Ok(count) => rt.write_all(&out[..count]),
+        Err(refusal) => println!(rt; "refused: {refusal}"),
+    }
+}
+
+// One input, fed whole, in the larger parts and in the smaller ones.
+fn cut_case(
+    rt: &impl Print,
+    name: &str,
+    input: &[u8],
+    larger: usize,
+    smaller: usize,
+) -> io::Result<()>
+    requires larger { 0 < larger }
+    requires smaller { 0 < smaller }
+{
+    println!(rt; "-- {name}")?;
+    write_report(rt, input, usize::MAX)?;
+    write_report(rt, input, larger)?;
+    write_report(rt, input, smaller)
 }
 
 fn case(rt: &impl Print, name: &str, input: &[u8]) -> io::Result<()> {
-    println!(rt; "-- {name}")?;
-    write_report(rt, input, 0)?;
-    write_report(rt, input, 3)?;
-    write_report(rt, input, 1)
-}
-
-fn lines(rt: &impl Print) -> io::Result<()> {
-    case(rt, "no bytes", b"")?;
-    case(rt, "a lone line end", b"\n")?;
-    case(rt, "out and back", b"5127\n7431\n")?;
-    case(rt, "the last line end missing", b"5127\n7431")
-}
-
-fn later_lines(rt: &impl Print) -> io::Result<()> {
-    case(rt, "a second back", b"5127\n7431\n7431\n")?;
-    case(rt, "an empty line after the last", b"5127\n7431\n\n")?;
-    case(rt, "a bad line 3", b"5127\n7431\n12a\n7431\nb\n")?;
-    case(rt, "a bad last line with no line end", b"5127\n7431x")
-}
-
-fn numbers(rt: &impl Print) -> io::Result<()> {
-    case(
-        rt,
-        "leading zeros",
-        b"005127\n0000000000000000000000000000007431\n0\n000\n",
-    )?;
-    case(rt, "the entry limit", b"33554431\n")?;
-    case(rt, "above the entry limit", b"33554432\n")
-}
-
-fn large_numbers(rt: &impl Print) -> io::Result<()> {
-    case(rt, "ten times the entry limit", b"335544310\n")?;
-    case(rt, "above 64 bits", b"18446744073709551616\n")?;
-    case(
-        rt,
-        "above 64 bits, in a last line with no line end",
-        b"1\n18446744073709556743",
-    )
-}
-
-fn bytes(rt: &impl Print) -> io::Result<()> {
-    case(rt, "CR LF", b"5127\r\n7431\r\n")?;
-    case(rt, "a space before", b" 5127\n")?;
-    case(rt, "a space after", b"5127 \n")?;
-    case(rt, "a minus sign", b"-1\n")
-}
-
-fn other_bytes(rt: &impl Print) -> io::Result<()> {
-    case(rt, "the byte below 0", b"1\n/\n")?;
-    case(rt, "the byte above 9", b"1\n:\n")?;
-    case(rt, "byte 0", b"5127\n\0\n")?;
-    case(rt, "byte 255", b"5127\n\xff\n")
+    cut_case(rt, name, input, 3, 1)
 }
 
 fn long_case(rt: &impl Print, name: &str, input: &[u8]) -> io::Result<()> {
-    println!(rt; "-- {name}")?;
-    write_report(rt, input, 0)?;
-    write_report(rt, input, 999)?;
-    write_report(rt, input, 100)
+    cut_case(rt, name, input, 999, 100)
 }
+
+const CASES: [(&str, &[u8]); 22] = [
+    ("no bytes", b""),
+    ("a lone line end", b"\n"),
+    ("out and back", b"5127\n7431\n"),
+    ("the last line end missing", b"5127\n7431"),
+    ("a second back", b"5127\n7431\n7431\n"),
+    ("an empty line after the last", b"5127\n7431\n\n"),
+    ("a bad line 3", b"5127\n7431\n12a\n7431\nb\n"),
+    ("a bad last line with no line end", b"5127\n7431x"),
+    (
+        "leading zeros",
+        b"005127\n0000000000000000000000000000007431\n0\n000\n",
+    ),
+    ("the entry limit", b"33554431\n"),
+    ("above the entry limit", b"33554432\n"),
+    ("ten times the entry limit", b"335544310\n"),
+    ("above 64 bits", b"18446744073709551616\n"),
+    (
+        "above 64 bits, in a last line with no line end",
+        b"1\n18446744073709556743",
+    ),
+    ("CR LF", b"5127\r\n7431\r\n"),
+    ("a space before", b" 5127\n"),
+    ("a space after", b"5127 \n"),
+    ("a minus sign", b"-1\n"),
+    ("the byte below 0", b"1\n/\n"),
+    ("the byte above 9", b"1\n:\n"),
+    ("byte 0", b"5127\n\0\n"),
+    ("byte 255", b"5127\n\xff\n"),
+];
 
 // A number of a thousand digits, and one with a thousand zeros before it.
 fn long(rt: &impl Print) -> io::Result<()> {
@@ -125,12 +115,9 @@ fn rows(rt: &impl Print) -> io::Result<()> {
 }
 
 fn main(rt: HostRuntime) -> io::Result<()> {
-    lines(&rt)?;
-    later_lines(&rt)?;
-    numbers(&rt)?;
-    large_numbers(&rt)?;
-    bytes(&rt)?;
-    other_bytes(&rt)?;
+    for (name, input) in CASES {
+        case(&rt, name, input)?;
+    }
     long(&rt)?;
     rows(&rt)
 }

@@ -5,5 +5,9 @@ use borrow.Author.Rules.{rules}
 use Rattle.report.specs.Reading.{reading}
 use Rattle.report.proofs.take_part.Goals as goal
 
-pub loop-i-preserved : goal.loop-i-preserved
-loop-i-preserved c = (search rules, search rules, turn-sound (get_or c.args.part.now c.loop-i.i 0) (reading c.loop-i.at c.loop-i.book) c.take_byte-at.ensures c.loop-i.invariant.2, feed-turn (reading c.args.reader c.args.book.now) c.args.part.now c.loop-i.i (search rules) c.loop-i.invariant.3 c.take_byte-at.ensures)
+pub loop-byte-preserved : goal.loop-byte-preserved
+loop-byte-preserved c =
+    let i = c.loop-byte.byte-index in (
+      turn-sound (get_or c.args.part.now i 0) (reading c.loop-byte.at c.loop-byte.book) c.take_byte-at.ensures c.loop-byte.invariant.0,
+      feed-turn (reading c.args.reader c.args.book.now) c.args.part.now i (search rules) c.loop-byte.invariant.1 c.take_byte-at.ensures,
+    )
