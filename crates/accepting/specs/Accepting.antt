@@ -1,6 +1,6 @@
 -- What a follower does with AcceptSync, AcceptDecide and Decide (follower.rs; docs/RULES.md, R8.5 to R8.9). Each definition takes the box last. Most are named like
 -- the function that meets them (handle_decide: handle_decide); each contract in src/ cites its own.
-use Rattle.std.specs.Prelude.{ℕ, ◌+◌, min, Bool, false, cond, ltb, eqb, Option, None, Some}
+use Rattle.std.specs.Prelude.{ℕ, ◌≡◌, ◌+◌, min, Bool, false, cond, ltb, eqb, MatchBool, Option, None, Some}
 use Rattle.base.specs.Limits.{max_log, largest}
 use Rattle.ballot.specs.Ballot.{compare_of, same}
 use Rattle.ballot.specs.declared.Ballot.{Ballot}
@@ -38,6 +38,10 @@ by_ballot Less n taken s = reconnected_of n.pid s
 
 abbrev pub if_valid_ballot : Ballot → SequencePaxos → SequencePaxos → SequencePaxos
 if_valid_ballot n taken s = by_ballot (compare_of s.internal_storage.promise n) n taken s
+
+-- What a test lets through is taken, from the box as it was; else the box is what the test leaves, whatever would have been taken
+abbrev pub Passes : Bool → (SequencePaxos → SequencePaxos) → SequencePaxos → SequencePaxos → Type 0
+Passes passed tested old new = MatchBool passed ((new ≡ old) × ((taken : SequencePaxos) → tested taken ≡ taken)) ((taken : SequencePaxos) → tested taken ≡ new)
 
 -- a new Accepted, remembered by its position (R7.8)
 unfoldable pub send_accepted : Ballot → ℕ → ℕ → SequencePaxos → SequencePaxos

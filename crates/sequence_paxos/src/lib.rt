@@ -1,13 +1,12 @@
 // The dispatch of a step to its handlers (sequence_paxos/mod.rs); `outcome` settles what they leave.
 #![tactic(auto)]
 
-ghost use Rattle.std.specs.Prelude.{◌≡◌, ◌+◌, ◌≤◌, ◌<◌};
+ghost use Rattle.std.specs.Prelude.{◌≡◌};
 ghost use Rattle.leader_state.specs.State.{own_place};
 ghost use Rattle.paxos_box.specs.Room.{Room};
 ghost use Rattle.follower.specs.Follower.{few_cached};
 ghost use Rattle.outcome.specs.Outcome.{as_decision};
 ghost use Rattle.sequence_paxos.specs.Decide.{brought_by, handle, resend_by, taken, decide_of};
-ghost use Rattle.base.specs.Limits.{max_proposal};
 ghost use Rattle.sequence_paxos.specs.Fit.{Sound, few_in, fit_event};
 
 use base::Refusal;
@@ -18,13 +17,10 @@ use paxos_box::{Role, SequencePaxos};
 fn brought_by(sync: Option<usize>, count: usize) -> Option<LogSync>
     ensures { result ≡ brought_by sync count }
 {
-    match sync {
-        None => None,
-        Some(start) => Some(LogSync {
-            sync_idx: start,
-            len: count,
-        }),
-    }
+    sync.map(|sync_idx| LogSync {
+        sync_idx,
+        len: count,
+    })
 }
 
 fn promise_arrives(s: SequencePaxos, p: Promise, count: usize, from: u64) -> SequencePaxos
@@ -33,15 +29,13 @@ fn promise_arrives(s: SequencePaxos, p: Promise, count: usize, from: u64) -> Seq
     ensures value { result ≡ handle (PaxosMsg.Promise p) count from s }
     ensures room_2 { Room result }
 {
-    let n_accepted = p.n_accepted;
     let m = PromiseMetaData {
-        n_accepted,
+        n_accepted: p.n_accepted,
         accepted_idx: p.accepted_idx,
         decided_idx: p.decided_idx,
         pid: from,
     };
-    let sync = p.log_sync;
-    leader::handle_promise(s, p.n, m, brought_by(sync, count))
+    leader::handle_promise(s, p.n, m, brought_by(p.log_sync, count))
 }
 
 // A message arrives from a depot, with `count` entries.
@@ -57,37 +51,12 @@ fn handle(s: SequencePaxos, m: PaxosMsg, count: usize, from: u64) -> SequencePax
         PaxosMsg::Prepare(x) => follower::handle_prepare(s, x, from),
         PaxosMsg::Promise(x) => promise_arrives(s, x, count, from),
         PaxosMsg::AcceptSync(x) => accepting::handle_acceptsync(s, x, count, from),
-        PaxosMsg::AcceptDecide(x) => accepting::handle_acceptdecide(
-            s,
-            x.n,
-            x.seq_num,
-            x.decided_idx,
-            count,
-        ),
+        PaxosMsg::AcceptDecide(x) => accepting::handle_acceptdecide(s, x, count),
         PaxosMsg::Accepted(x) => leader::handle_accepted(s, x.n, x.accepted_idx, from),
         PaxosMsg::NotAccepted(x) => leader::handle_notaccepted(s, x.n, from),
-        PaxosMsg::Decide(x) => accepting::handle_decide(s, x.n, x.seq_num, x.decided_idx),
+        PaxosMsg::Decide(x) => accepting::handle_decide(s, x),
         PaxosMsg::ProposalForward => leader::handle_forwarded_proposal(s, count),
     }
-}
-
-fn message_arrives(s: SequencePaxos, m: PaxosMessage, count: usize) -> SequencePaxos
-    requires sound { Sound s }
-    requires fit_event { fit_event (Event.Message m) count }
-    ensures value { result ≡ taken (Event.Message m) count s }
-    ensures room { Room result }
-{
-    let msg = m.msg;
-    handle(s, msg, count, m.from)
-}
-
-fn proposal(s: SequencePaxos, count: usize) -> SequencePaxos
-    requires sound { Sound s }
-    requires count_le_max_proposal { count ≤ max_proposal }
-    ensures value { result ≡ taken Event.Propose count s }
-    ensures room { Room result }
-{
-    leader::handle_forwarded_proposal(s, count)
 }
 
 fn resend_message_timeout(s: SequencePaxos) -> SequencePaxos
@@ -95,9 +64,7 @@ fn resend_message_timeout(s: SequencePaxos) -> SequencePaxos
     ensures value { result ≡ resend_by s.state.role s }
     ensures room { Room result }
 {
-    let st = s.state;
-    let role = st.role;
-    match role {
+    match s.state.role {
         Role::Leader => leader::resend_messages_leader(s),
         Role::Follower => follower::resend_messages_follower(s),
     }
@@ -111,8 +78,8 @@ fn take(s: SequencePaxos, e: Event, count: usize) -> SequencePaxos
     ensures room { Room result }
 {
     match e {
-        Event::Message(m) => message_arrives(s, m, count),
-        Event::Propose => proposal(s, count),
+        Event::Message(m) => handle(s, m.msg, count, m.from),
+        Event::Propose => leader::handle_forwarded_proposal(s, count),
         Event::Leader(n) => leader::handle_leader(s, n),
         Event::Reconnect(pid) => reconnect::reconnected(s, pid),
         Event::Resend => resend_message_timeout(s),
