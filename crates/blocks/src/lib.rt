@@ -10,22 +10,24 @@ use ballot::Ballot;
 
 pub const WORDS: usize = 16;
 
+pub type Block = [u64; WORDS];
+
 // The largest round, and the largest priority, of a ballot.
-pub const MOST_32: u64 = 0xffff_ffff;
+pub const MOST_32: u64 = u32::MAX as u64;
 
 // Block i of the words; words past their end are 0.
 #[tactic(auto, unfolding(crate::specs::Blocks::block_at))]
-pub fn block(words: &[u64], i: usize) -> [u64; 16]
+pub fn block(words: &[u64], i: usize) -> Block
     requires { i ≤ max_messages }
     ensures { result ≡ block_at i words.now }
 {
-    let mut b = [0u64; 16];
+    let mut b = [0; WORDS];
     storage::write_suffix(&mut b, storage::part(words, i * WORDS, WORDS));
     b
 }
 
 // Block i is written; nothing else of the words is touched.
-pub fn put_block(words: &mut [u64], i: usize, b: [u64; 16])
+pub fn put_block(words: &mut [u64], i: usize, b: Block)
     requires { i * block_words + block_words ≤ length words.old }
     ensures { words.new ≡ put_at (i * block_words) b words.old }
 {
@@ -37,32 +39,20 @@ pub fn put_block(words: &mut [u64], i: usize, b: [u64; 16])
 fn over_most(most: u64, w: u64) -> bool
     ensures { result ≡ over_most most w }
 {
-    if most == 0 {
-        return false;
-    }
-    most < w
+    most != 0 && most < w
 }
 
 // Whether some word is above its most.
 #[tactic(auto, unfolding(hire_book::specs::Below::any_below, crate::specs::Blocks::above_most))]
-pub fn above_most(b: [u64; 16], most: [u64; 16]) -> bool
+pub fn above_most(b: Block, most: Block) -> bool
     ensures { result ≡ above_most most b }
 {
-    let mut k: usize = 0;
-    while k < WORDS {
+    for k in 0..WORDS {
         if over_most(most[k], b[k]) {
             return true;
         }
-        k += 1;
     }
     false
-}
-
-// A word as an index.
-pub fn index(w: u64) -> usize
-    ensures { result ≡ w }
-{
-    w as usize
 }
 
 // A word of 32 bits; a larger one, which no block that means something has, is read as 0.
@@ -70,10 +60,7 @@ pub fn index(w: u64) -> usize
 fn small(w: u64) -> u32
     ensures { result ≡ small w }
 {
-    if w <= MOST_32 {
-        return w as u32;
-    }
-    0
+    u32::try_from(w).unwrap_or(0)
 }
 
 pub fn ballot(round: u64, priority: u64, pid: u64) -> Ballot
@@ -91,5 +78,5 @@ pub fn ballot_words(b: Ballot) -> [u64; 3]
     ensures value { result ≡ ballot_words b }
     ensures narrow { Narrow b }
 {
-    [b.n as u64, b.priority as u64, b.pid]
+    [u64::from(b.n), u64::from(b.priority), b.pid]
 }

@@ -16,12 +16,12 @@ use Rattle.leader_state.specs.declared.Depot.{Depot}
 use Rattle.leader_state.specs.declared.MaxPromise.{MaxPromise}
 use Rattle.leader_state.specs.declared.LeaderState.{LeaderState}
 use Rattle.record.specs.declared.Record.{Record}
-use Rattle.tags.specs.Tags.{promise_meta, accepted_at, cached_promise}
-use Rattle.tags.proofs.Back.{promise-back, latest-back, held_back, role-back, phase-back, accepted-back, cached-back}
+use Rattle.tags.specs.Tags.{promise_meta}
+use Rattle.tags.proofs.Back.{option-back, promise-back, role-back, phase-back}
 use Rattle.blocks.specs.Blocks.{block_at, word, above_most, ballot_of, Whole}
 use Rattle.blocks.proofs.Blocks.{ballot-back, block-joined}
 use Rattle.blocks.proofs.Filled.{tabulate-is}
-use Rattle.layout_record.specs.Words.{record_count, standing_words, lead_words, best_words, cached_words, place_words, record_blocks, record_words}
+use Rattle.layout_record.specs.Words.{record_count, accepted_at, cached_promise, no_sync, no_accepted, no_promise, standing_words, lead_words, best_words, cached_words, place_words, record_blocks, record_words}
 use Rattle.layout_record.specs.Kept.{NarrowStanding, NarrowLead, NarrowBest, NarrowCached, NarrowPlace, Kept}
 use Rattle.layout_record.specs.Reading.{accepted_in, best_in, cached_in, place_in, places_in, leader_in, record_with, record_of, record_most, no_record, record_in}
 use Rattle.blocks.proofs.Mapped.{getD-mapped, whole-mapped}
@@ -31,18 +31,18 @@ use Rattle.layout_record.proofs.Fits.{block-fits}
 -- each block
 
 lead-back : (n : Ballot) (m : Option AcceptedAt) → NarrowLead n m → accepted_in (lead_words n m) ≡ m
-lead-back n m h = rw (ballot-back (accepted_at m).n h.1, accepted-back m)
+lead-back n m h = rw (ballot-back (accepted_at m).n h.1, option-back m no_accepted)
 
 best-back : (b : MaxPromise) → NarrowBest b → best_in (best_words b) ≡ b
-best-back b h = rw (ballot-back b.meta.n_accepted h, held_back b.sync)
+best-back b h = rw (ballot-back b.meta.n_accepted h, option-back b.sync no_sync)
 
 message-back : (m : Option CachedPromise) → NarrowCached m → cached_in (cached_words m) ≡ m
 message-back m h =
-    rw (ballot-back (cached_promise m).n h.0, ballot-back (cached_promise m).n_accepted h.1, held_back (cached_promise m).sync, cached-back m)
+    rw (ballot-back (cached_promise m).n h.0, ballot-back (cached_promise m).n_accepted h.1, option-back (cached_promise m).sync no_sync, option-back m no_promise)
 
 place-back : (d : Depot) → NarrowPlace d → place_in (place_words d) ≡ d
 place-back d h =
-    rw (ballot-back (promise_meta d.promise).n_accepted h, promise-back d.promise, latest-back d.latest)
+    rw (ballot-back (promise_meta d.promise).n_accepted h, promise-back d.promise, option-back d.latest 0)
 
 -- where they lie
 

@@ -1,5 +1,5 @@
 -- No word of a machine's record is above its most.
-use Rattle.std.specs.Prelude.{Option, None, Some}
+use Rattle.std.specs.Prelude.{Option}
 use Prim.Native.Nat.{ℕ, zero, suc, ◌≤◌, ◌<◌}
 use mathlib.Core.Path.{◌≡◌, refl}
 use mathlib.Core.Bool.{false}
@@ -11,7 +11,6 @@ use borrow.Author.Tests.{le-ltb, ne_eqb}
 use Rattle.hire_book.specs.Below.{any_below}
 use Rattle.paxos_box.specs.declared.AcceptedAt.{AcceptedAt}
 use Rattle.paxos_box.specs.declared.CachedPromise.{CachedPromise}
-use Rattle.leader_state.specs.declared.LogSync.{LogSync}
 use Rattle.ballot.specs.declared.Ballot.{Ballot}
 use Rattle.sequence.specs.declared.SequenceNumber.{SequenceNumber}
 use Rattle.leader_state.specs.State.{fresh}
@@ -27,8 +26,9 @@ use Rattle.paxos_box.specs.declared.Phase.{Phase}
 use Rattle.paxos_box.specs.declared.Phase.TheVariants as phase
 use Rattle.record.specs.declared.Record.{Record}
 use Rattle.blocks.specs.Blocks.{over_most, above_most, most32}
-use Rattle.tags.specs.Tags.{promise_tag, promise_meta, latest_tag, held_tag, role_tag, phase_tag, accepted_tag, accepted_at, cached_tag, cached_promise}
-use Rattle.layout_record.specs.Words.{record_count, standing_words, lead_words, best_words, cached_words, place_words, record_blocks}
+use Rattle.tags.proofs.Back.{option-low}
+use Rattle.tags.specs.Tags.{promise_tag, promise_meta, role_tag, phase_tag}
+use Rattle.layout_record.specs.Words.{record_count, accepted_at, cached_promise, standing_words, lead_words, best_words, cached_words, place_words, record_blocks}
 use Rattle.layout_record.specs.Kept.{NarrowStanding, NarrowLead, NarrowBest, NarrowCached, NarrowPlace, Kept}
 use Rattle.layout_record.specs.Reading.{record_most, place_most}
 use Rattle.blocks.proofs.Mapped.{getD-mapped}
@@ -41,14 +41,6 @@ promise-low NotPromised = refl
 promise-low (Promised m) = refl
 promise-low PromisedHigher = refl
 
-latest-low : (l : Option ℕ) → ltb 1 (latest_tag l) ≡ false
-latest-low None = refl
-latest-low (Some i) = refl
-
-held_low : (h : Option LogSync) → ltb 1 (held_tag h) ≡ false
-held_low None = refl
-held_low (Some x) = refl
-
 role-low : (r : Role) → ltb 1 (role_tag r) ≡ false
 role-low role.Follower = refl
 role-low role.Leader = refl
@@ -58,14 +50,6 @@ phase-low phase.Prepare = refl
 phase-low phase.Accept = refl
 phase-low phase.Recover = refl
 phase-low phase.None = refl
-
-accepted-low : (m : Option AcceptedAt) → ltb 1 (accepted_tag m) ≡ false
-accepted-low None = refl
-accepted-low (Some a) = refl
-
-cached-low : (m : Option CachedPromise) → ltb 1 (cached_tag m) ≡ false
-cached-low None = refl
-cached-low (Some p) = refl
 
 -- each block
 
@@ -77,17 +61,17 @@ standing-fits s state outgoing q buffered h =
 lead-fits : (n : Ballot) (m : Option AcceptedAt) → NarrowLead n m → above_most (record_most 2) (lead_words n m) ≡ false
 unfolding above_most any_below over_most record_most
 lead-fits n m h =
-    rw (le-ltb most32 n.n h.0.0, le-ltb most32 n.priority h.0.1, accepted-low m, le-ltb most32 (accepted_at m).n.n h.1.0, le-ltb most32 (accepted_at m).n.priority h.1.1)
+    rw (le-ltb most32 n.n h.0.0, le-ltb most32 n.priority h.0.1, option-low m, le-ltb most32 (accepted_at m).n.n h.1.0, le-ltb most32 (accepted_at m).n.priority h.1.1)
 
 best-fits : (b : MaxPromise) → NarrowBest b → above_most (record_most 3) (best_words b) ≡ false
 unfolding above_most any_below over_most record_most
 best-fits b h =
-    rw (le-ltb most32 b.meta.n_accepted.n h.0, le-ltb most32 b.meta.n_accepted.priority h.1, held_low b.sync)
+    rw (le-ltb most32 b.meta.n_accepted.n h.0, le-ltb most32 b.meta.n_accepted.priority h.1, option-low b.sync)
 
 cached-fits : (m : Option CachedPromise) → NarrowCached m → above_most (record_most 4) (cached_words m) ≡ false
 unfolding above_most any_below over_most record_most
 cached-fits m h =
-    rw (cached-low m, le-ltb most32 (cached_promise m).n.n h.0.0, le-ltb most32 (cached_promise m).n.priority h.0.1, le-ltb most32 (cached_promise m).n_accepted.n h.1.0, le-ltb most32 (cached_promise m).n_accepted.priority h.1.1, held_low (cached_promise m).sync)
+    rw (option-low m, le-ltb most32 (cached_promise m).n.n h.0.0, le-ltb most32 (cached_promise m).n.priority h.0.1, le-ltb most32 (cached_promise m).n_accepted.n h.1.0, le-ltb most32 (cached_promise m).n_accepted.priority h.1.1, option-low (cached_promise m).sync)
 
 cells_fit : (b : List ℕ) → above_most (record_most 1) b ≡ false
 unfolding above_most any_below over_most record_most
@@ -101,7 +85,7 @@ most-place i h =
 place-fits : (d : Depot) → NarrowPlace d → above_most place_most (place_words d) ≡ false
 unfolding above_most any_below over_most
 place-fits d h =
-    rw (promise-low d.promise, le-ltb most32 (promise_meta d.promise).n_accepted.n h.0, le-ltb most32 (promise_meta d.promise).n_accepted.priority h.1, latest-low d.latest)
+    rw (promise-low d.promise, le-ltb most32 (promise_meta d.promise).n_accepted.n h.0, le-ltb most32 (promise_meta d.promise).n_accepted.priority h.1, option-low d.latest)
 
 place_at : (r : Record) (k : ℕ) → Kept r → k < max_depots → above_most (record_most (suc (suc (suc (suc (suc k)))))) (get_or (map place_words r.leader_state.depots) k []) ≡ false
 place_at r k h l =

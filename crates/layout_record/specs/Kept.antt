@@ -11,7 +11,8 @@ use Rattle.leader_state.specs.declared.MaxPromise.{MaxPromise}
 use Rattle.paxos_box.specs.declared.InternalStorage.{InternalStorage}
 use Rattle.record.specs.declared.Record.{Record}
 use Rattle.blocks.specs.Blocks.{Narrow}
-use Rattle.tags.specs.Tags.{promise_meta, accepted_at, cached_promise}
+use Rattle.tags.specs.Tags.{promise_meta}
+use Rattle.layout_record.specs.Words.{accepted_at, cached_promise}
 
 abbrev pub NarrowStanding : InternalStorage → Type 0
 NarrowStanding s = Narrow s.promise × Narrow s.accepted_round

@@ -14,7 +14,7 @@ use Rattle.record.specs.declared.Record.{Record}
 use Rattle.record.specs.Record.{fresh_record}
 use Rattle.ballot.specs.Ballot.{default}
 use Rattle.blocks.specs.Blocks.{block_at, word, above_most, most32, ballot_of}
-use Rattle.tags.specs.Variants.{promise_of, latest_of, held_of, role_of, phase_of, accepted_of, cached_of}
+use Rattle.tags.specs.Variants.{option_of, promise_of, role_of, phase_of}
 use Rattle.layout_record.specs.Words.{record_count}
 
 -- block 0
@@ -34,8 +34,7 @@ state_in b = record { role = role_of (word b 8); phase = phase_of (word b 9) }
 -- block 2
 
 abbrev pub accepted_in : List ℕ → Option AcceptedAt
-accepted_in b =
-    record { meta = accepted_of (word b 3) (record { n = ballot_of (word b 4) (word b 5) (word b 6); at = word b 7 }) }
+accepted_in b = option_of (word b 3) (record { n = ballot_of (word b 4) (word b 5) (word b 6); at = word b 7 })
 
 -- block 3
 
@@ -43,24 +42,21 @@ abbrev pub best_in : List ℕ → MaxPromise
 best_in b =
     record {
       meta = record { n_accepted = ballot_of (word b 0) (word b 1) (word b 2); accepted_idx = word b 3; decided_idx = word b 4; pid = word b 5 };
-      sync = held_of (word b 6) (record { sync_idx = word b 7; len = word b 8 });
+      sync = option_of (word b 6) (record { sync_idx = word b 7; len = word b 8 });
     }
 
 -- block 4
 
 abbrev pub cached_in : List ℕ → Option CachedPromise
 cached_in b =
-    record {
-      message =
-          cached_of (word b 0)
-          (record {
-            n = ballot_of (word b 1) (word b 2) (word b 3);
-            n_accepted = ballot_of (word b 4) (word b 5) (word b 6);
-            decided_idx = word b 7;
-            accepted_idx = word b 8;
-            sync = held_of (word b 9) (record { sync_idx = word b 10; len = word b 11 });
-          });
-    }
+    option_of (word b 0)
+    (record {
+      n = ballot_of (word b 1) (word b 2) (word b 3);
+      n_accepted = ballot_of (word b 4) (word b 5) (word b 6);
+      decided_idx = word b 7;
+      accepted_idx = word b 8;
+      sync = option_of (word b 9) (record { sync_idx = word b 10; len = word b 11 });
+    })
 
 -- blocks 5 to 11
 
@@ -72,7 +68,7 @@ place_in b =
           (record { n_accepted = ballot_of (word b 1) (word b 2) (word b 3); accepted_idx = word b 4; decided_idx = word b 5; pid = word b 6 });
       seq_num = record { session = word b 7; counter = word b 8 };
       accepted_idx = word b 9;
-      latest = latest_of (word b 10) (word b 11);
+      latest = option_of (word b 10) (word b 11);
     }
 
 abbrev pub places_in : List ℕ → List Depot

@@ -1,5 +1,5 @@
 -- A record as words: the blocks of docs/LAYOUT.md, in its order.
-use Rattle.std.specs.Prelude.{ℕ, ◌*◌, List, [], ◌∷◌, map, Option}
+use Rattle.std.specs.Prelude.{ℕ, ◌*◌, List, [], ◌∷◌, map, Option, None, unwrap_or}
 use Rattle.paxos_box.specs.declared.AcceptedAt.{AcceptedAt}
 use Rattle.paxos_box.specs.declared.CachedPromise.{CachedPromise}
 use Rattle.ballot.specs.declared.Ballot.{Ballot}
@@ -10,7 +10,9 @@ use Rattle.paxos_box.specs.declared.InternalStorage.{InternalStorage}
 use Rattle.paxos_box.specs.declared.State.{State}
 use Rattle.record.specs.declared.Record.{Record}
 use Rattle.blocks.specs.Blocks.{block_words, joined}
-use Rattle.tags.specs.Tags.{promise_tag, promise_meta, latest_tag, latest_at, held_tag, held_sync, role_tag, phase_tag, accepted_tag, accepted_at, cached_tag, cached_promise}
+use Rattle.ballot.specs.Ballot.{default}
+use Rattle.leader_state.specs.declared.LogSync.{LogSync}
+use Rattle.tags.specs.Tags.{option_tag, promise_tag, promise_meta, role_tag, phase_tag}
 
 abbrev pub record_count : ℕ
 record_count = 12
@@ -21,6 +23,26 @@ places_at = 5 * block_words
 
 abbrev pub record_length : ℕ
 record_length = record_count * block_words
+
+-- what stands for nothing
+abbrev pub no_sync : LogSync
+no_sync = record { sync_idx = 0; len = 0 }
+
+abbrev pub no_accepted : AcceptedAt
+no_accepted = record { n = default; at = 0 }
+
+abbrev pub no_promise : CachedPromise
+no_promise = record { n = default; n_accepted = default; decided_idx = 0; accepted_idx = 0; sync = None }
+
+-- what an Option holds; where it holds nothing, zeros
+abbrev pub held_sync : Option LogSync → LogSync
+held_sync h = unwrap_or h no_sync
+
+abbrev pub accepted_at : Option AcceptedAt → AcceptedAt
+accepted_at m = unwrap_or m no_accepted
+
+abbrev pub cached_promise : Option CachedPromise → CachedPromise
+cached_promise m = unwrap_or m no_promise
 
 -- block 0: what the box promised and accepted, its role and phase, and the counts
 abbrev pub standing_words : InternalStorage → State → ℕ → SequenceNumber → ℕ → List ℕ
@@ -38,7 +60,7 @@ standing_words s state outgoing q buffered =
 abbrev pub lead_words : Ballot → Option AcceptedAt → List ℕ
 lead_words n meta =
     n.n ∷ n.priority ∷ n.pid
-    ∷ accepted_tag meta
+    ∷ option_tag meta
     ∷ (accepted_at meta).n.n ∷ (accepted_at meta).n.priority ∷ (accepted_at meta).n.pid
     ∷ (accepted_at meta).at
     ∷ 0 ∷ 0 ∷ 0 ∷ 0 ∷ 0 ∷ 0 ∷ 0 ∷ 0 ∷ []
@@ -48,17 +70,17 @@ abbrev pub best_words : MaxPromise → List ℕ
 best_words best =
     best.meta.n_accepted.n ∷ best.meta.n_accepted.priority ∷ best.meta.n_accepted.pid
     ∷ best.meta.accepted_idx ∷ best.meta.decided_idx ∷ best.meta.pid
-    ∷ held_tag best.sync ∷ (held_sync best.sync).sync_idx ∷ (held_sync best.sync).len
+    ∷ option_tag best.sync ∷ (held_sync best.sync).sync_idx ∷ (held_sync best.sync).len
     ∷ 0 ∷ 0 ∷ 0 ∷ 0 ∷ 0 ∷ 0 ∷ 0 ∷ []
 
 -- block 4: the cached promise
 abbrev pub cached_words : Option CachedPromise → List ℕ
 cached_words m =
-    cached_tag m
+    option_tag m
     ∷ (cached_promise m).n.n ∷ (cached_promise m).n.priority ∷ (cached_promise m).n.pid
     ∷ (cached_promise m).n_accepted.n ∷ (cached_promise m).n_accepted.priority ∷ (cached_promise m).n_accepted.pid
     ∷ (cached_promise m).decided_idx ∷ (cached_promise m).accepted_idx
-    ∷ held_tag (cached_promise m).sync ∷ (held_sync (cached_promise m).sync).sync_idx ∷ (held_sync (cached_promise m).sync).len
+    ∷ option_tag (cached_promise m).sync ∷ (held_sync (cached_promise m).sync).sync_idx ∷ (held_sync (cached_promise m).sync).len
     ∷ 0 ∷ 0 ∷ 0 ∷ 0 ∷ []
 
 -- blocks 5 to 11: the depots' places
@@ -69,7 +91,7 @@ place_words d =
     ∷ (promise_meta d.promise).accepted_idx ∷ (promise_meta d.promise).decided_idx ∷ (promise_meta d.promise).pid
     ∷ d.seq_num.session ∷ d.seq_num.counter
     ∷ d.accepted_idx
-    ∷ latest_tag d.latest ∷ latest_at d.latest
+    ∷ option_tag d.latest ∷ unwrap_or d.latest 0
     ∷ 0 ∷ 0 ∷ 0 ∷ 0 ∷ []
 
 -- block 1 is the sixteen cells of the buffered proposals

@@ -10,10 +10,12 @@ ghost use Rattle.layout_record.specs.Kept.{NarrowStanding, NarrowLead, NarrowBes
 ghost use Rattle.layout_record.specs.Reading.{place_in, best_in, cached_in, accepted_in, storage_in, state_in, places_in, leader_in, record_with, record_of, record_most, no_record, broken_record, record_in};
 
 use ballot::Ballot;
+use blocks::{Block, WORDS};
 use leader_state::{Depot, LeaderState, LogSync, MaxPromise, PromiseMetaData, PromiseState};
 use paxos_box::{AcceptedAt, CachedPromise, InternalStorage, Phase, Role, State};
 use record::{Buffered, Record};
 use sequence::SequenceNumber;
+use std::array;
 
 // Where the blocks lie.
 const STANDING: usize = 0;
@@ -28,39 +30,39 @@ const CACHED: usize = 4;
 
 const PLACES: usize = 5;
 
-const DEPOTS: usize = 7;
+const DEPOTS: usize = base::MAX_DEPOTS as usize;
 
 const BLOCKS: usize = PLACES + DEPOTS;
 
-pub const RECORD: usize = BLOCKS * blocks::WORDS;
+pub const RECORD: usize = BLOCKS * WORDS;
+
+// What stands for no log sync.
+const NO_SYNC: LogSync = LogSync {
+    sync_idx: 0,
+    len: 0,
+};
 
 // The blocks. Each tells too what a ballot's type says of it.
 
-fn place_block(d: Depot) -> [u64; 16]
+fn place_block(d: Depot) -> Block
     ensures value { result ≡ place_words d }
     ensures narrow_place { NarrowPlace d }
 {
-    let promise = d.promise;
-    let tag = tags::promise_tag(promise);
-    let m = tags::promise_meta(promise);
+    let m = tags::promise_meta(d.promise);
     let n = blocks::ballot_words(m.n_accepted);
-    let s = d.seq_num;
-    let latest = d.latest;
-    let remembered = tags::latest_tag(latest);
-    let at = tags::latest_at(latest);
     [
-        tag,
+        tags::promise_tag(d.promise),
         n[0],
         n[1],
         n[2],
         m.accepted_idx as u64,
         m.decided_idx as u64,
         m.pid,
-        s.session,
-        s.counter,
+        d.seq_num.session,
+        d.seq_num.counter,
         d.accepted_idx as u64,
-        remembered,
-        at as u64,
+        tags::option_tag(d.latest),
+        d.latest.unwrap_or(0) as u64,
         0,
         0,
         0,
@@ -68,15 +70,13 @@ fn place_block(d: Depot) -> [u64; 16]
     ]
 }
 
-fn best_block(best: MaxPromise) -> [u64; 16]
+fn best_block(best: MaxPromise) -> Block
     ensures value { result ≡ best_words best }
     ensures narrow_best { NarrowBest best }
 {
     let m = best.meta;
     let n = blocks::ballot_words(m.n_accepted);
-    let sync = best.sync;
-    let tag = tags::held_tag(sync);
-    let x = tags::held_sync(sync);
+    let x = best.sync.unwrap_or(NO_SYNC);
     [
         n[0],
         n[1],
@@ -84,7 +84,7 @@ fn best_block(best: MaxPromise) -> [u64; 16]
         m.accepted_idx as u64,
         m.decided_idx as u64,
         m.pid,
-        tag,
+        tags::option_tag(best.sync),
         x.sync_idx as u64,
         x.len as u64,
         0,
@@ -97,19 +97,22 @@ fn best_block(best: MaxPromise) -> [u64; 16]
     ]
 }
 
-fn cached_block(message: Option<CachedPromise>) -> [u64; 16]
+fn cached_block(message: Option<CachedPromise>) -> Block
     ensures value { result ≡ cached_words message }
     ensures narrow_cached { NarrowCached message }
 {
-    let tag = tags::cached_tag(message);
-    let p = tags::cached_promise(message);
+    let p = message.unwrap_or(CachedPromise {
+        n: Ballot::default(),
+        n_accepted: Ballot::default(),
+        decided_idx: 0,
+        accepted_idx: 0,
+        sync: None,
+    });
     let n = blocks::ballot_words(p.n);
     let accepted = blocks::ballot_words(p.n_accepted);
-    let sync = p.sync;
-    let held = tags::held_tag(sync);
-    let x = tags::held_sync(sync);
+    let x = p.sync.unwrap_or(NO_SYNC);
     [
-        tag,
+        tags::option_tag(message),
         n[0],
         n[1],
         n[2],
@@ -118,7 +121,7 @@ fn cached_block(message: Option<CachedPromise>) -> [u64; 16]
         accepted[2],
         p.decided_idx as u64,
         p.accepted_idx as u64,
-        held,
+        tags::option_tag(p.sync),
         x.sync_idx as u64,
         x.len as u64,
         0,
@@ -129,19 +132,21 @@ fn cached_block(message: Option<CachedPromise>) -> [u64; 16]
 }
 
 // The leader's ballot and the remembered Accepted.
-fn lead_block(n_leader: Ballot, meta: Option<AcceptedAt>) -> [u64; 16]
+fn lead_block(n_leader: Ballot, meta: Option<AcceptedAt>) -> Block
     ensures value { result ≡ lead_words n_leader meta }
     ensures narrow_lead { NarrowLead n_leader meta }
 {
     let n = blocks::ballot_words(n_leader);
-    let tag = tags::accepted_tag(meta);
-    let a = tags::accepted_at(meta);
+    let a = meta.unwrap_or(AcceptedAt {
+        n: Ballot::default(),
+        at: 0,
+    });
     let accepted = blocks::ballot_words(a.n);
     [
         n[0],
         n[1],
         n[2],
-        tag,
+        tags::option_tag(meta),
         accepted[0],
         accepted[1],
         accepted[2],
@@ -164,16 +169,12 @@ fn standing_block(
     outgoing: usize,
     q: SequenceNumber,
     buffered: usize,
-) -> [u64; 16]
+) -> Block
     ensures value { result ≡ standing_words s state outgoing q buffered }
     ensures narrow_standing { NarrowStanding s }
 {
     let n = blocks::ballot_words(s.promise);
     let accepted = blocks::ballot_words(s.accepted_round);
-    let role = state.role;
-    let phase = state.phase;
-    let as_role = tags::role_tag(role);
-    let as_phase = tags::phase_tag(phase);
     [
         n[0],
         n[1],
@@ -183,8 +184,8 @@ fn standing_block(
         accepted[2],
         s.decided_idx as u64,
         s.accepted_idx as u64,
-        as_role,
-        as_phase,
+        state.role as u64,
+        state.phase as u64,
         outgoing as u64,
         q.session,
         q.counter,
@@ -195,7 +196,7 @@ fn standing_block(
 }
 
 // The cells of the buffered proposals.
-fn buffered_block(b: Buffered) -> [u64; 16]
+fn buffered_block(b: Buffered) -> Block
     ensures value { result ≡ b.entries }
     ensures entries_len { length b.entries ≡ max_buffered }
 {
@@ -204,112 +205,96 @@ fn buffered_block(b: Buffered) -> [u64; 16]
 
 // What the blocks mean.
 
-fn place_in(b: [u64; 16]) -> Depot
+fn place_in(b: Block) -> Depot
     ensures { result ≡ place_in b }
 {
-    let n_accepted = blocks::ballot(b[1], b[2], b[3]);
     let m = PromiseMetaData {
-        n_accepted,
-        accepted_idx: blocks::index(b[4]),
-        decided_idx: blocks::index(b[5]),
+        n_accepted: blocks::ballot(b[1], b[2], b[3]),
+        accepted_idx: b[4] as usize,
+        decided_idx: b[5] as usize,
         pid: b[6],
     };
-    let promise = tags::promise_of(b[0], m);
-    let seq_num = SequenceNumber {
-        session: b[7],
-        counter: b[8],
-    };
-    let latest = tags::latest_of(b[10], blocks::index(b[11]));
     Depot {
-        promise,
-        seq_num,
-        accepted_idx: blocks::index(b[9]),
-        latest,
+        promise: tags::promise_of(b[0], m),
+        seq_num: SequenceNumber {
+            session: b[7],
+            counter: b[8],
+        },
+        accepted_idx: b[9] as usize,
+        latest: tags::option_of(b[10], b[11] as usize),
     }
 }
 
-fn best_in(b: [u64; 16]) -> MaxPromise
+fn best_in(b: Block) -> MaxPromise
     ensures { result ≡ best_in b }
 {
-    let n_accepted = blocks::ballot(b[0], b[1], b[2]);
-    let meta = PromiseMetaData {
-        n_accepted,
-        accepted_idx: blocks::index(b[3]),
-        decided_idx: blocks::index(b[4]),
-        pid: b[5],
-    };
     let x = LogSync {
-        sync_idx: blocks::index(b[7]),
-        len: blocks::index(b[8]),
+        sync_idx: b[7] as usize,
+        len: b[8] as usize,
     };
-    let sync = tags::held_of(b[6], x);
-    MaxPromise { meta, sync }
-}
-
-fn cached_in(b: [u64; 16]) -> Option<CachedPromise>
-    ensures { result ≡ cached_in b }
-{
-    let n = blocks::ballot(b[1], b[2], b[3]);
-    let n_accepted = blocks::ballot(b[4], b[5], b[6]);
-    let x = LogSync {
-        sync_idx: blocks::index(b[10]),
-        len: blocks::index(b[11]),
-    };
-    let sync = tags::held_of(b[9], x);
-    let p = CachedPromise {
-        n,
-        n_accepted,
-        decided_idx: blocks::index(b[7]),
-        accepted_idx: blocks::index(b[8]),
-        sync,
-    };
-    tags::cached_of(b[0], p)
-}
-
-fn accepted_in(b: [u64; 16]) -> Option<AcceptedAt>
-    ensures { result ≡ accepted_in b }
-{
-    let n = blocks::ballot(b[4], b[5], b[6]);
-    let a = AcceptedAt {
-        n,
-        at: blocks::index(b[7]),
-    };
-    tags::accepted_of(b[3], a)
-}
-
-fn storage_in(b: [u64; 16]) -> InternalStorage
-    ensures { result ≡ storage_in b }
-{
-    let promise = blocks::ballot(b[0], b[1], b[2]);
-    let accepted_round = blocks::ballot(b[3], b[4], b[5]);
-    InternalStorage {
-        promise,
-        accepted_round,
-        decided_idx: blocks::index(b[6]),
-        accepted_idx: blocks::index(b[7]),
+    MaxPromise {
+        meta: PromiseMetaData {
+            n_accepted: blocks::ballot(b[0], b[1], b[2]),
+            accepted_idx: b[3] as usize,
+            decided_idx: b[4] as usize,
+            pid: b[5],
+        },
+        sync: tags::option_of(b[6], x),
     }
 }
 
-fn state_in(b: [u64; 16]) -> State
+fn cached_in(b: Block) -> Option<CachedPromise>
+    ensures { result ≡ cached_in b }
+{
+    let x = LogSync {
+        sync_idx: b[10] as usize,
+        len: b[11] as usize,
+    };
+    let p = CachedPromise {
+        n: blocks::ballot(b[1], b[2], b[3]),
+        n_accepted: blocks::ballot(b[4], b[5], b[6]),
+        decided_idx: b[7] as usize,
+        accepted_idx: b[8] as usize,
+        sync: tags::option_of(b[9], x),
+    };
+    tags::option_of(b[0], p)
+}
+
+fn accepted_in(b: Block) -> Option<AcceptedAt>
+    ensures { result ≡ accepted_in b }
+{
+    let a = AcceptedAt {
+        n: blocks::ballot(b[4], b[5], b[6]),
+        at: b[7] as usize,
+    };
+    tags::option_of(b[3], a)
+}
+
+fn storage_in(b: Block) -> InternalStorage
+    ensures { result ≡ storage_in b }
+{
+    InternalStorage {
+        promise: blocks::ballot(b[0], b[1], b[2]),
+        accepted_round: blocks::ballot(b[3], b[4], b[5]),
+        decided_idx: b[6] as usize,
+        accepted_idx: b[7] as usize,
+    }
+}
+
+fn state_in(b: Block) -> State
     ensures { result ≡ state_in b }
 {
-    let role = tags::role_of(b[8]);
-    let phase = tags::phase_of(b[9]);
-    State { role, phase }
+    State {
+        role: tags::role_of(b[8]),
+        phase: tags::phase_of(b[9]),
+    }
 }
 
 // The seven places.
-fn places_in(words: &[u64]) -> [Depot; 7]
+fn places_in(words: &[u64]) -> [Depot; DEPOTS]
     ensures { result ≡ places_in words.now }
 {
-    let fresh = Depot::fresh();
-    let mut depots = [fresh; 7];
-    let mut k: usize = 0;
-    while k < DEPOTS {
-        depots[k] = place_in(blocks::block(words, PLACES + k));
-        k += 1;
-    }
-    depots
+    array::from_fn(|k| place_in(blocks::block(words, PLACES + k)))
 }
 
 #[tactic(auto, unfolding(crate::specs::Reading::leader_in))]
@@ -317,45 +302,38 @@ fn leader_in(words: &[u64]) -> LeaderState
     ensures { result ≡ leader_in words.now }
 {
     let lead = blocks::block(words, LEAD);
-    let n_leader = blocks::ballot(lead[0], lead[1], lead[2]);
-    let depots = places_in(words);
-    let max_promise = best_in(blocks::block(words, BEST));
     LeaderState {
-        n_leader,
-        depots,
-        max_promise,
+        n_leader: blocks::ballot(lead[0], lead[1], lead[2]),
+        depots: places_in(words),
+        max_promise: best_in(blocks::block(words, BEST)),
     }
 }
 
 // A record of the first block, the buffered proposals' cells and the other parts.
 #[tactic(auto, unfolding(crate::specs::Reading::record_with))]
 fn record_with(
-    b: [u64; 16],
-    entries: [u64; 16],
+    b: Block,
+    entries: Block,
     leader_state: LeaderState,
     latest_accepted_meta: Option<AcceptedAt>,
     cached_promise_message: Option<CachedPromise>,
 ) -> Record
     ensures { result ≡ record_with b entries leader_state latest_accepted_meta cached_promise_message }
 {
-    let internal_storage = storage_in(b);
-    let state = state_in(b);
-    let current_seq_num = SequenceNumber {
-        session: b[11],
-        counter: b[12],
-    };
-    let buffered_proposals = Buffered {
-        entries,
-        len: blocks::index(b[13]),
-    };
     Record {
-        internal_storage,
-        state,
-        buffered_proposals,
-        outgoing: blocks::index(b[10]),
+        internal_storage: storage_in(b),
+        state: state_in(b),
+        buffered_proposals: Buffered {
+            entries,
+            len: b[13] as usize,
+        },
+        outgoing: b[10] as usize,
         leader_state,
         latest_accepted_meta,
-        current_seq_num,
+        current_seq_num: SequenceNumber {
+            session: b[11],
+            counter: b[12],
+        },
         cached_promise_message,
     }
 }
@@ -365,42 +343,29 @@ fn record_with(
 fn record_of(words: &[u64]) -> Record
     ensures { result ≡ record_of words.now }
 {
-    let leader_state = leader_in(words);
-    let latest_accepted_meta = accepted_in(blocks::block(words, LEAD));
-    let cached_promise_message = cached_in(blocks::block(words, CACHED));
-    let standing = blocks::block(words, STANDING);
-    let entries = blocks::block(words, BUFFERED);
     record_with(
-        standing,
-        entries,
-        leader_state,
-        latest_accepted_meta,
-        cached_promise_message,
+        blocks::block(words, STANDING),
+        blocks::block(words, BUFFERED),
+        leader_in(words),
+        accepted_in(blocks::block(words, LEAD)),
+        cached_in(blocks::block(words, CACHED)),
     )
 }
 
 // The most of each word of block i; 0 where it has none.
 #[tactic(auto, unfolding(crate::specs::Reading::record_most))]
-fn record_most(i: usize) -> [u64; 16]
+fn record_most(i: usize) -> Block
     ensures { result ≡ record_most i }
 {
     let m = blocks::MOST_32;
-    if i == STANDING {
-        return [m, m, 0, m, m, 0, 0, 0, 1, 3, 0, 0, 0, 0, 0, 0];
+    match i {
+        STANDING => [m, m, 0, m, m, 0, 0, 0, 1, 3, 0, 0, 0, 0, 0, 0],
+        BUFFERED => [0; WORDS],
+        LEAD => [m, m, 0, 1, m, m, 0, 0, 0, 0, 0, 0, 0, 0, 0, 0],
+        BEST => [m, m, 0, 0, 0, 0, 1, 0, 0, 0, 0, 0, 0, 0, 0, 0],
+        CACHED => [1, m, m, 0, m, m, 0, 0, 0, 1, 0, 0, 0, 0, 0, 0],
+        _ => [2, m, m, 0, 0, 0, 0, 0, 0, 0, 1, 0, 0, 0, 0, 0],
     }
-    if i == BUFFERED {
-        return [0; 16];
-    }
-    if i == LEAD {
-        return [m, m, 0, 1, m, m, 0, 0, 0, 0, 0, 0, 0, 0, 0, 0];
-    }
-    if i == BEST {
-        return [m, m, 0, 0, 0, 0, 1, 0, 0, 0, 0, 0, 0, 0, 0, 0];
-    }
-    if i == CACHED {
-        return [1, m, m, 0, m, m, 0, 0, 0, 1, 0, 0, 0, 0, 0, 0];
-    }
-    [2, m, m, 0, 0, 0, 0, 0, 0, 0, 1, 0, 0, 0, 0, 0]
 }
 
 // Whether the words mean no record: one of them is above its most.
@@ -408,12 +373,10 @@ fn record_most(i: usize) -> [u64; 16]
 fn no_record(words: &[u64]) -> bool
     ensures { result ≡ no_record words.now }
 {
-    let mut i: usize = 0;
-    while i < BLOCKS {
+    for i in 0..BLOCKS {
         if blocks::above_most(blocks::block(words, i), record_most(i)) {
             return true;
         }
-        i += 1;
     }
     false
 }
@@ -422,16 +385,15 @@ fn no_record(words: &[u64]) -> bool
 pub fn broken_record() -> Record
     ensures { result ≡ broken_record }
 {
-    let mut r = Record::fresh();
-    let none = Ballot::default();
-    let past = InternalStorage {
-        promise: none,
-        accepted_round: none,
-        decided_idx: 1,
-        accepted_idx: 0,
-    };
-    r.internal_storage = past;
-    r
+    Record {
+        internal_storage: InternalStorage {
+            promise: Ballot::default(),
+            accepted_round: Ballot::default(),
+            decided_idx: 1,
+            accepted_idx: 0,
+        },
+        ..Record::fresh()
+    }
 }
 
 // The record that words mean; words that mean none mean a broken one.
@@ -440,9 +402,10 @@ pub fn read_record(words: &[u64]) -> Record
     ensures { result ≡ record_in words.now }
 {
     if no_record(words) {
-        return broken_record();
+        broken_record()
+    } else {
+        record_of(words)
     }
-    record_of(words)
 }
 
 // The places into their blocks.
@@ -451,12 +414,8 @@ fn put_places(words: &mut [u64], l: LeaderState)
     ensures words_after { words.new ≡ put_at places_at (joined (map place_words l.depots)) words.old }
     ensures places_kept { PlacesKept l }
 {
-    let depots = l.depots;
-    let mut k: usize = 0;
-    while k < DEPOTS {
-        let d = depots[k];
-        blocks::put_block(words, PLACES + k, place_block(d));
-        k += 1;
+    for k in 0..DEPOTS {
+        blocks::put_block(words, PLACES + k, place_block(l.depots[k]));
     }
 }
 
@@ -466,21 +425,18 @@ pub fn write_record(words: &mut [u64], r: Record)
     ensures words_after { words.new ≡ record_words r }
     ensures words_after_2 { record_in words.new ≡ r }
 {
-    let buffered = r.buffered_proposals;
-    let l = r.leader_state;
     let standing = standing_block(
         r.internal_storage,
         r.state,
         r.outgoing,
         r.current_seq_num,
-        buffered.len,
+        r.buffered_proposals.len,
     );
     blocks::put_block(words, STANDING, standing);
-    blocks::put_block(words, BUFFERED, buffered_block(buffered));
-    let meta = r.latest_accepted_meta;
-    blocks::put_block(words, LEAD, lead_block(l.n_leader, meta));
+    blocks::put_block(words, BUFFERED, buffered_block(r.buffered_proposals));
+    let l = r.leader_state;
+    blocks::put_block(words, LEAD, lead_block(l.n_leader, r.latest_accepted_meta));
     blocks::put_block(words, BEST, best_block(l.max_promise));
-    let message = r.cached_promise_message;
-    blocks::put_block(words, CACHED, cached_block(message));
+    blocks::put_block(words, CACHED, cached_block(r.cached_promise_message));
     put_places(words, l);
 }

@@ -1,5 +1,4 @@
 -- Reading a head, and a row of them, gives back what was written.
-use Rattle.std.specs.Prelude.{Option, None, Some}
 use Prim.Native.Nat.{ℕ, ◌+◌, ◌*◌, ◌<◌}
 use mathlib.Core.Path.{◌≡◌, refl, ap, ◌∙◌}
 use mathlib.Core.Bool.{false}
@@ -18,20 +17,17 @@ use Rattle.blocks.specs.Blocks.{block_words, block_at, above_most, joined, Narro
 use Rattle.blocks.proofs.Blocks.{ballot-back, block-joined, length-joined, put_whole}
 use Rattle.blocks.proofs.Mapped.{getD-mapped, whole-mapped, mapped-turn}
 use Rattle.blocks.proofs.Filled.{tabulate-is}
+use Rattle.tags.proofs.Back.{option-back}
 use Rattle.layout_row.specs.declared.Fields.{Fields}
-use Rattle.layout_row.specs.Fields.{sync_tag, sync_at, sync_of, fields_of, message_of, fields_in}
+use Rattle.layout_row.specs.Fields.{fields_of, message_of, fields_in}
 use Rattle.layout_row.specs.Row.{row_length, block_of, head_words, row_blocks, row_words, NarrowHead, KeptRow, zero_head, head_in, head_most, no_row, row_in}
 use Rattle.layout_row.proofs.Fits.{kind-low, sync-low, head-fits}
-
-sync-back : (s : Option ℕ) → sync_of (sync_tag s) (sync_at s) ≡ s
-sync-back None = refl
-sync-back (Some start) = refl
 
 pub message-back : (m : PaxosMsg) → message_of (fields_of m) ≡ m
 unfolding message_of
 message-back (PrepareReq m) = refl
 message-back (Prepare m) = refl
-message-back (Promise m) = rw (sync-back m.log_sync)
+message-back (Promise m) = rw (option-back m.log_sync 0)
 message-back (AcceptSync m) = refl
 message-back (AcceptDecide m) = refl
 message-back (Accepted m) = refl

@@ -1,5 +1,4 @@
 -- No word of a machine's head or event is above its most.
-use Rattle.std.specs.Prelude.{Option, None, Some}
 use Prim.Native.Nat.{ℕ}
 use mathlib.Core.Path.{◌≡◌, refl}
 use mathlib.Core.Bool.{false}
@@ -8,9 +7,10 @@ use borrow.Author.Tests.{le-ltb}
 use Rattle.hire_book.specs.Below.{any_below}
 use Rattle.messages.specs.declared.PaxosMsg.{PaxosMsg}
 use Rattle.messages.specs.declared.PaxosMsg.TheVariants.{PrepareReq, Prepare, Promise, AcceptSync, AcceptDecide, Accepted, NotAccepted, Decide, ProposalForward}
+use Rattle.tags.proofs.Back.{option-low}
 use Rattle.blocks.specs.Blocks.{over_most, above_most, most32, Narrow}
 use Rattle.layout_row.specs.declared.Fields.{Fields}
-use Rattle.layout_row.specs.Fields.{sync_tag, fields_of}
+use Rattle.layout_row.specs.Fields.{fields_of}
 use Rattle.layout_row.specs.Row.{block_of, head_most}
 use Rattle.layout_row.specs.Event.{event_most}
 
@@ -25,14 +25,10 @@ kind-low (NotAccepted m) = refl
 kind-low (Decide m) = refl
 kind-low ProposalForward = refl
 
-tag-low : (s : Option ℕ) → ltb 1 (sync_tag s) ≡ false
-tag-low None = refl
-tag-low (Some start) = refl
-
 pub sync-low : (m : PaxosMsg) → ltb 1 (fields_of m).with_sync ≡ false
 sync-low (PrepareReq m) = refl
 sync-low (Prepare m) = refl
-sync-low (Promise m) = tag-low m.log_sync
+sync-low (Promise m) = option-low m.log_sync
 sync-low (AcceptSync m) = refl
 sync-low (AcceptDecide m) = refl
 sync-low (Accepted m) = refl

@@ -1,5 +1,5 @@
 -- A message as its kind and every field that some kind has, and the message that such fields mean.
-use Rattle.std.specs.Prelude.{ℕ, cond, List, eqb, Option, None, Some}
+use Rattle.std.specs.Prelude.{ℕ, cond, List, eqb, unwrap_or}
 use Rattle.ballot.specs.Ballot.{default}
 use Rattle.ballot.specs.declared.Ballot.{Ballot}
 use Rattle.sequence.specs.Sequence.{first}
@@ -8,15 +8,9 @@ use Rattle.messages.specs.declared.PaxosMsg.{PaxosMsg}
 use Rattle.messages.specs.declared.PaxosMsg.TheVariants.{PrepareReq, Prepare, Promise, AcceptSync, AcceptDecide, Accepted, NotAccepted, Decide, ProposalForward}
 use Rattle.messages.specs.declared.Promise as promise
 use Rattle.blocks.specs.Blocks.{word, ballot_of}
+use Rattle.tags.specs.Tags.{option_tag}
+use Rattle.tags.specs.Variants.{option_of}
 use Rattle.layout_row.specs.declared.Fields.{Fields}
-
-abbrev pub sync_tag : Option ℕ → ℕ
-sync_tag None = 0
-sync_tag (Some start) = 1
-
-abbrev pub sync_at : Option ℕ → ℕ
-sync_at None = 0
-sync_at (Some start) = start
 
 abbrev pub fields_as : ℕ → Ballot → Ballot → SequenceNumber → ℕ → ℕ → ℕ → ℕ → Fields
 fields_as kind n accepted s decided length tag start =
@@ -24,7 +18,7 @@ fields_as kind n accepted s decided length tag start =
 
 abbrev pub promise_fields : promise.Promise → Fields
 promise_fields m =
-    fields_as 2 m.n m.n_accepted first m.decided_idx m.accepted_idx (sync_tag m.log_sync) (sync_at m.log_sync)
+    fields_as 2 m.n m.n_accepted first m.decided_idx m.accepted_idx (option_tag m.log_sync) (unwrap_or m.log_sync 0)
 
 abbrev pub fields_of : PaxosMsg → Fields
 fields_of (PrepareReq m) = fields_as 0 m.n default first 0 0 0 0
@@ -37,12 +31,9 @@ fields_of (NotAccepted m) = fields_as 6 m.n default first 0 0 0 0
 fields_of (Decide m) = fields_as 7 m.n default m.seq_num m.decided_idx 0 0 0
 fields_of ProposalForward = fields_as 8 default default first 0 0 0 0
 
-abbrev pub sync_of : ℕ → ℕ → Option ℕ
-sync_of tag start = cond (eqb tag 0) None (Some start)
-
 abbrev pub promise_of : Fields → promise.Promise
 promise_of f =
-    record { n = f.n; n_accepted = f.n_accepted; decided_idx = f.decided_idx; accepted_idx = f.accepted_idx; log_sync = sync_of f.with_sync f.sync_idx }
+    record { n = f.n; n_accepted = f.n_accepted; decided_idx = f.decided_idx; accepted_idx = f.accepted_idx; log_sync = option_of f.with_sync f.sync_idx }
 
 -- by the kind; one above its most is read as the last
 abbrev pub message_as : ℕ → Fields → PaxosMsg

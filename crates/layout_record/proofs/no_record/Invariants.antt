@@ -1,15 +1,10 @@
 -- `no_record` meets its contract: up to the block looked at, none has a word above its most.
 use Rattle.layout_record.specs.Reading.{record_most}
-use Rattle.layout_record.specs.Words.{record_count}
 use Rattle.blocks.specs.Blocks.{block_at, above_most}
 use Rattle.hire_book.specs.Below.{any_below}
 use mathlib.Core.Path.{◌≡◌}
 use mathlib.Core.Bool.{false}
-use Prim.Native.Nat.{◌≤◌, ◌-◌}
 use Rattle.layout_record.proofs.no_record.Given as goal
 
 abbrev pub invariant-loop-i : goal.invariant-loop-i
-invariant-loop-i l = (l.i ≤ record_count) × (any_below (λ j. above_most (record_most j) (block_at j l.words)) l.i ≡ false)
-
-abbrev pub decreases-loop-i : goal.decreases-loop-i
-decreases-loop-i l = record_count - l.i
+invariant-loop-i l = any_below (λ j. above_most (record_most j) (block_at j l.words)) l.i ≡ false

@@ -11,8 +11,10 @@ use Rattle.layout_row.proofs.no_row.Goals as goal
 
 pub returns-then-above_most : goal.returns-then-above_most
 unfolding no_row
-returns-then-above_most c = let e : above_most head_most (block_at c.loop-i.i c.args.words.now) ≡ true = rw (← c.loop-i.invariant.1, ← c.block.ensures, ← c.above_most.ensures) c.if-above_most.true in rw (found (λ j. above_most head_most (block_at j c.args.words.now)) max_messages c.loop-i.i (search rules) e)
+returns-then-above_most c =
+    let e : above_most head_most (block_at c.loop-i.i c.args.words.now) ≡ true = rw (← c.head_most-most.ensures, ← c.block.ensures, ← c.above_most.ensures) c.if-above_most.true in
+    rw (found (λ j. above_most head_most (block_at j c.args.words.now)) max_messages c.loop-i.i (search rules) e)
 
 pub returns : goal.returns
 unfolding no_row
-returns c = let e : c.loop-i.i ≡ max_messages = omega arith in rw (← e, c.loop-i.invariant.2)
+returns c = let e : c.loop-i.i ≡ max_messages = omega arith in rw (← e, c.loop-i.invariant)

@@ -2,14 +2,9 @@
 use Rattle.layout_row.specs.Row.{head_most}
 use Rattle.blocks.specs.Blocks.{block_at, above_most}
 use Rattle.hire_book.specs.Below.{any_below}
-use Rattle.base.specs.Limits.{max_messages}
 use mathlib.Core.Path.{◌≡◌}
 use mathlib.Core.Bool.{false}
-use Prim.Native.Nat.{◌≤◌, ◌-◌}
 use Rattle.layout_row.proofs.no_row.Given as goal
 
 abbrev pub invariant-loop-i : goal.invariant-loop-i
-invariant-loop-i l = (l.i ≤ max_messages) × (l.most ≡ head_most) × (any_below (λ j. above_most head_most (block_at j l.words)) l.i ≡ false)
-
-abbrev pub decreases-loop-i : goal.decreases-loop-i
-decreases-loop-i l = max_messages - l.i
+invariant-loop-i l = any_below (λ j. above_most head_most (block_at j l.words)) l.i ≡ false
