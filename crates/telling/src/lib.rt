@@ -2,10 +2,122 @@
 #![tactic(auto)]
 
 use ballot::Ballot;
-use messages::{AcceptDecide, AcceptSync, Accepted, Decide, PaxosMsg, Prepare, Promise};
+use messages::PaxosMsg;
 use paxos_box::{Phase, Role, State};
 use sequence::SequenceNumber;
-use std::io;
+use std::{fmt, io};
+
+// A value of the box as it is told: each type's words are its `Display`.
+#[derive(Clone, Copy)]
+pub struct Told<T>(pub T);
+
+// round.priority.pid
+impl fmt::Display for Told<Ballot> {
+    fn fmt<W: fmt::Write>(&self, f: &mut fmt::Formatter<W>) -> fmt::Result {
+        let Ballot { n, priority, pid } = self.0;
+        write!(f, "{n}.{priority}.{pid}")
+    }
+}
+
+// session.counter
+impl fmt::Display for Told<SequenceNumber> {
+    fn fmt<W: fmt::Write>(&self, f: &mut fmt::Formatter<W>) -> fmt::Result {
+        let SequenceNumber { session, counter } = self.0;
+        write!(f, "{session}.{counter}")
+    }
+}
+
+// Where a sync's entries begin.
+impl fmt::Display for Told<Option<usize>> {
+    fn fmt<W: fmt::Write>(&self, f: &mut fmt::Formatter<W>) -> fmt::Result {
+        match self.0 {
+            None => write!(f, "no sync"),
+            Some(start) => write!(f, "sync from {start}"),
+        }
+    }
+}
+
+impl fmt::Display for Told<PaxosMsg> {
+    fn fmt<W: fmt::Write>(&self, f: &mut fmt::Formatter<W>) -> fmt::Result {
+        match self.0 {
+            PaxosMsg::PrepareReq(m) => write!(f, "PrepareReq {}", Told(m.n)),
+            PaxosMsg::Prepare(m) => write!(
+                f,
+                "Prepare {} accepted {} in {} decided {}",
+                Told(m.n),
+                m.accepted_idx,
+                Told(m.n_accepted),
+                m.decided_idx
+            ),
+            PaxosMsg::Promise(m) => write!(
+                f,
+                "Promise {} accepted {} in {} decided {} {}",
+                Told(m.n),
+                m.accepted_idx,
+                Told(m.n_accepted),
+                m.decided_idx,
+                Told(m.log_sync)
+            ),
+            PaxosMsg::AcceptSync(m) => write!(
+                f,
+                "AcceptSync {} number {} decided {} from {}",
+                Told(m.n),
+                Told(m.seq_num),
+                m.decided_idx,
+                m.sync_idx
+            ),
+            PaxosMsg::AcceptDecide(m) => write!(
+                f,
+                "AcceptDecide {} number {} decided {}",
+                Told(m.n),
+                Told(m.seq_num),
+                m.decided_idx
+            ),
+            PaxosMsg::Accepted(m) => {
+                write!(f, "Accepted {} accepted {}", Told(m.n), m.accepted_idx)
+            }
+            PaxosMsg::NotAccepted(m) => write!(f, "NotAccepted {}", Told(m.n)),
+            PaxosMsg::Decide(m) => write!(
+                f,
+                "Decide {} number {} decided {}",
+                Told(m.n),
+                Told(m.seq_num),
+                m.decided_idx
+            ),
+            PaxosMsg::ProposalForward => write!(f, "ProposalForward"),
+        }
+    }
+}
+
+impl fmt::Display for Told<State> {
+    fn fmt<W: fmt::Write>(&self, f: &mut fmt::Formatter<W>) -> fmt::Result {
+        let role = match self.0.role {
+            Role::Follower => "Follower",
+            Role::Leader => "Leader",
+        };
+        let phase = match self.0.phase {
+            Phase::Prepare => "Prepare",
+            Phase::Accept => "Accept",
+            Phase::Recover => "Recover",
+            Phase::None => "None",
+        };
+        write!(f, "{role} {phase}")
+    }
+}
+
+// Each entry after a space; nothing where there is none.
+impl fmt::Display for Told<&[u64]> {
+    fn fmt<W: fmt::Write>(&self, f: &mut fmt::Formatter<W>) -> fmt::Result {
+        if self.0.is_empty() {
+            return Ok(());
+        }
+        write!(f, " entries")?;
+        for entry in self.0 {
+            write!(f, " {entry}")?;
+        }
+        Ok(())
+    }
+}
 
 pub fn say(rt: &impl Print, text: &[u8]) -> io::Result<()> {
     rt.write_all(text)
@@ -17,119 +129,27 @@ pub fn say_number(rt: &impl Print, text: &[u8], n: u64) -> io::Result<()> {
     rt.print(n)
 }
 
-// Each entry after a space; nothing where there is none.
 pub fn say_entries(rt: &impl Print, entries: &[u64]) -> io::Result<()> {
-    if entries.is_empty() {
-        return Ok(());
-    }
-    say(rt, b" entries")?;
-    for entry in entries {
-        say_number(rt, b" ", *entry)?;
-    }
-    Ok(())
+    rt.print(Told(entries))
 }
 
-// round.priority.pid
 pub fn say_ballot(rt: &impl Print, text: &[u8], n: Ballot) -> io::Result<()> {
-    say_number(rt, text, n.n as u64)?;
-    say_number(rt, b".", n.priority as u64)?;
-    say_number(rt, b".", n.pid)
-}
-
-// session.counter
-fn say_sequence(rt: &impl Print, q: SequenceNumber) -> io::Result<()> {
-    say_number(rt, b" number ", q.session)?;
-    say_number(rt, b".", q.counter)
-}
-
-fn say_prepare(rt: &impl Print, m: Prepare) -> io::Result<()> {
-    say_ballot(rt, b"Prepare ", m.n)?;
-    say_number(rt, b" accepted ", m.accepted_idx as u64)?;
-    say_ballot(rt, b" in ", m.n_accepted)?;
-    say_number(rt, b" decided ", m.decided_idx as u64)
-}
-
-fn say_sync(rt: &impl Print, sync: Option<usize>) -> io::Result<()> {
-    match sync {
-        None => say(rt, b" no sync"),
-        Some(start) => say_number(rt, b" sync from ", start as u64),
-    }
-}
-
-fn say_promise(rt: &impl Print, m: Promise) -> io::Result<()> {
-    say_ballot(rt, b"Promise ", m.n)?;
-    say_number(rt, b" accepted ", m.accepted_idx as u64)?;
-    say_ballot(rt, b" in ", m.n_accepted)?;
-    say_number(rt, b" decided ", m.decided_idx as u64)?;
-    let sync = m.log_sync;
-    say_sync(rt, sync)
-}
-
-fn say_accept_sync(rt: &impl Print, m: AcceptSync) -> io::Result<()> {
-    say_ballot(rt, b"AcceptSync ", m.n)?;
-    say_sequence(rt, m.seq_num)?;
-    say_number(rt, b" decided ", m.decided_idx as u64)?;
-    say_number(rt, b" from ", m.sync_idx as u64)
-}
-
-fn say_accept_decide(rt: &impl Print, m: AcceptDecide) -> io::Result<()> {
-    say_ballot(rt, b"AcceptDecide ", m.n)?;
-    say_sequence(rt, m.seq_num)?;
-    say_number(rt, b" decided ", m.decided_idx as u64)
-}
-
-fn say_accepted(rt: &impl Print, m: Accepted) -> io::Result<()> {
-    say_ballot(rt, b"Accepted ", m.n)?;
-    say_number(rt, b" accepted ", m.accepted_idx as u64)
-}
-
-fn say_decide(rt: &impl Print, m: Decide) -> io::Result<()> {
-    say_ballot(rt, b"Decide ", m.n)?;
-    say_sequence(rt, m.seq_num)?;
-    say_number(rt, b" decided ", m.decided_idx as u64)
+    say(rt, text)?;
+    rt.print(Told(n))
 }
 
 pub fn say_message(rt: &impl Print, m: PaxosMsg) -> io::Result<()> {
-    match m {
-        PaxosMsg::PrepareReq(x) => say_ballot(rt, b"PrepareReq ", x.n),
-        PaxosMsg::Prepare(x) => say_prepare(rt, x),
-        PaxosMsg::Promise(x) => say_promise(rt, x),
-        PaxosMsg::AcceptSync(x) => say_accept_sync(rt, x),
-        PaxosMsg::AcceptDecide(x) => say_accept_decide(rt, x),
-        PaxosMsg::Accepted(x) => say_accepted(rt, x),
-        PaxosMsg::NotAccepted(x) => say_ballot(rt, b"NotAccepted ", x.n),
-        PaxosMsg::Decide(x) => say_decide(rt, x),
-        PaxosMsg::ProposalForward => say(rt, b"ProposalForward"),
-    }
-}
-
-fn say_role(rt: &impl Print, role: Role) -> io::Result<()> {
-    match role {
-        Role::Follower => say(rt, b"Follower"),
-        Role::Leader => say(rt, b"Leader"),
-    }
-}
-
-fn say_phase(rt: &impl Print, phase: Phase) -> io::Result<()> {
-    match phase {
-        Phase::Prepare => say(rt, b" Prepare"),
-        Phase::Accept => say(rt, b" Accept"),
-        Phase::Recover => say(rt, b" Recover"),
-        Phase::None => say(rt, b" None"),
-    }
+    rt.print(Told(m))
 }
 
 pub fn say_state(rt: &impl Print, state: State) -> io::Result<()> {
-    let role = state.role;
-    let phase = state.phase;
-    say_role(rt, role)?;
-    say_phase(rt, phase)
+    rt.print(Told(state))
 }
 
 // What a step answered: taken, or the number of the refusal.
 pub fn say_answer(rt: &impl Print, no: u32) -> io::Result<()> {
-    if no == 0 {
-        return say(rt, b": taken");
+    match no {
+        0 => print!(rt; ": taken"),
+        _ => print!(rt; ": refused with {no}"),
     }
-    say_number(rt, b": refused with ", no as u64)
 }
