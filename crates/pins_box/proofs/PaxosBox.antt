@@ -6,6 +6,7 @@ use Rattle.paxos_box.proofs.Phase.is_recover.Reads as is-recover-reads
 use Rattle.paxos_box.proofs.Phase.is_accept.Reads as is-accept-reads
 use Rattle.paxos_box.proofs.State.standing.Reads as standing-reads
 use Rattle.paxos_box.proofs.SequencePaxos.push_send.Reads as push-send-reads
+use Rattle.paxos_box.proofs.SequencePaxos.send_new.Reads as send-new-reads
 use Rattle.paxos_box.proofs.SequencePaxos.next_place.Reads as next-place-reads
 use Rattle.paxos_box.proofs.SequencePaxos.refuse_unfit.Reads as refuse-unfit-reads
 use Rattle.paxos_box.proofs.SequencePaxos.refuse_top.Reads as refuse-top-reads
@@ -40,6 +41,9 @@ standing κs a r₁ r₂ s₁ s₂ p q = p ∙ sym q
 
 pub push-send : (κs : _) (a : _) → OneAnswer (push-send-reads.Post κs a)
 push-send κs a r₁ r₂ s₁ s₂ p q = p.0 ∙ sym q.0
+
+pub send-new : (κs : _) (a : _) → OneAnswer (send-new-reads.Post κs a)
+send-new κs a r₁ r₂ s₁ s₂ p q = p.0 ∙ sym q.0
 
 pub next-place : (κs : _) (a : _) → OneAnswer (next-place-reads.Post κs a)
 next-place κs a r₁ r₂ s₁ s₂ p q = p ∙ sym q

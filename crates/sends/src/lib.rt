@@ -14,8 +14,7 @@ use paxos_box::{Join, Send, Sent, SequencePaxos, Source};
 use quorum::Configuration;
 
 // What goes to each of several depots: `count` entries of the log from `from` on in an AcceptDecide, or none.
-// Kept: an enum and not a closure, since `send_each` and the theorems of decide_laws, table_laws, step_laws, unread_laws and faces speak of
-// `for_marked` and `turn_of` at each value of `Each`: a closure would need that value beside it.
+// Kept: an enum and no closure, since theorems (`sent-marked`, `along-marked`, `clean-one`, `marked`) and send_each's own clause name its values.
 #[derive(Clone, Copy, Debug, PartialEq, Eq)]
 pub enum Each {
     Prepare,
