@@ -1,5 +1,5 @@
 -- A box with one thing changed, and one thing more in its plan. Each function takes the box last.
-use Rattle.std.specs.Prelude.{ℕ, ◌+◌, Bool, true, false, cond, List, ltb, set, Option}
+use Rattle.std.specs.Prelude.{ℕ, ◌+◌, Bool, true, false, cond, ltb, set, Option}
 use Rattle.leader_state.specs.declared.LogSync.{LogSync}
 use Rattle.paxos_box.specs.declared.AcceptedAt.{AcceptedAt}
 use Rattle.paxos_box.specs.declared.CachedPromise.{CachedPromise}

@@ -1,5 +1,5 @@
 -- Bounds that keep every sum of a deciding box small, and a plan whose sums are right. They follow from refusals 1 and 2, and every step of deciding keeps them.
-use Rattle.std.specs.Prelude.{ℕ, ◌+◌, ◌*◌, ◌≤◌, ◌<◌, ◌≡◌, List, [], ◌∷◌, length, take}
+use Rattle.std.specs.Prelude.{ℕ, ◌+◌, ◌*◌, ◌≤◌, ◌≡◌, List, [], ◌∷◌, length, take}
 use Rattle.leader_state.specs.State.{own_place}
 use Rattle.paxos_box.specs.declared.Send.{Send}
 use Rattle.paxos_box.specs.declared.Sends.{Sends}

@@ -8,6 +8,7 @@ ghost use Rattle.paxos_box.specs.Room.{Room};
 ghost use Rattle.paxos_box.specs.Box.{is_new, planned, push_of, next_place, unfit, at_top, with_state, with_leader, with_storage, with_writes, set_promised, set_decided, set_length, set_seq, set_cached, set_meta, set_buffered, log_op, cached_op, best_op, buffer_op, kept_buffered, is_recover, is_accept_phase, is_leader, standing_of};
 
 use ballot::Ballot;
+use base::MAX_DEPOTS;
 use leader_state::{LeaderState, LogSync};
 use messages::PaxosMsg;
 use quorum::Configuration;
@@ -126,7 +127,8 @@ pub enum LogOp {
     PutHeld(LogSync),
 }
 
-// What the step writes. `buffered` proposals join the log's end after `log`; `dropped` are dropped.
+// What the step writes. `buffered` proposals join the log's end after `log`; `dropped` are dropped. The cached promise's buffer takes the
+// log's part `cached`; the held sync's buffer takes the `best` given entries; `buffer` given entries join the buffered proposals.
 #[derive(Clone, Copy)]
 pub struct Writes {
     pub log: LogOp,
@@ -141,7 +143,7 @@ pub struct Writes {
 // log that the held sync, or the one brought, would change.
 #[derive(Clone, Copy)]
 pub struct Sight {
-    pub accdec: [bool; 7],
+    pub accdec: [bool; MAX_DEPOTS as usize],
     pub accepted: bool,
     pub held_change: usize,
     pub brought_change: usize,

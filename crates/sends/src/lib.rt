@@ -7,11 +7,12 @@ ghost use Rattle.leader_state.specs.State.{own_place};
 ghost use Rattle.paxos_box.specs.Room.{Room};
 ghost use Rattle.sends.specs.Sends.{suffix_length, sync_fits, next_session_of, next_seq_num_of, set_latest_of, latest_accdec, send_prepare, send_acc_sync, acc_sync_to, join_to, new_accept_decide, accept_decide_to, new_session, push_acc_sync, push_accept_decide, push_decide, decide_to, send_prepare_req, few_entries, send_one, for_marked, peers_of};
 
-use base::LARGEST;
+use base::{LARGEST, MAX_DEPOTS};
 use leader_state::{PromiseMetaData, PromiseState};
 use messages::{AcceptDecide, AcceptSync, Decide, PaxosMsg, Prepare, PrepareReq};
 use paxos_box::{Join, Send, Sent, SequencePaxos, Source};
 use quorum::Configuration;
+use std::array::from_fn;
 
 // What goes to each of several depots: `count` entries of the log from `from` on in an AcceptDecide, or none.
 // Kept: an enum and no closure, since theorems (`sent-marked`, `along-marked`, `clean-one`, `marked`) and send_each's own clause name its values.
@@ -292,7 +293,7 @@ fn send_one(s: SequencePaxos, what: Each, to: u64) -> SequencePaxos
 
 // To each depot whose place is marked, in rising order.
 #[tactic(auto, using(crate::proofs::Turns::marked_turn), unfolding(crate::specs::Sends::for_marked))]
-pub fn send_each(s: SequencePaxos, what: Each, marks: [bool; 7]) -> SequencePaxos
+pub fn send_each(s: SequencePaxos, what: Each, marks: [bool; MAX_DEPOTS as usize]) -> SequencePaxos
     requires room { Room s }
     requires few_entries { few_entries what }
     ensures value { result ≡ for_marked marks what s.config.depots s }
@@ -308,14 +309,9 @@ pub fn send_each(s: SequencePaxos, what: Each, marks: [bool; 7]) -> SequencePaxo
 }
 
 // A mark for each place: the depot there is not oneself.
-#[tactic(auto, unfolding(base::specs::Lists::tabulate, crate::specs::Sends::peers_of))]
-pub fn peers(c: Configuration) -> [bool; 7]
+pub fn peers(c: Configuration) -> [bool; MAX_DEPOTS as usize]
     requires { c.depots ≤ max_depots }
     ensures { result ≡ peers_of c }
 {
-    let mut marks = [false; 7];
-    for i in 0..c.depots {
-        marks[i as usize] = i + 1 != c.pid;
-    }
-    marks
+    from_fn(|i| (i as u64) < c.depots && i as u64 + 1 != c.pid)
 }
