@@ -40,6 +40,7 @@ pub struct Depot {
 }
 
 // A log sync whose entries lie in a lent buffer: where it starts, and how many they are.
+// Kept as a length beside a lent buffer: no heap, and the entries are the C caller's memory.
 #[derive(Clone, Copy, Debug, PartialEq, Eq)]
 pub struct LogSync {
     pub sync_idx: usize,
@@ -54,6 +55,7 @@ pub struct MaxPromise {
 }
 
 // The depots of pid 1 up lie at the places 0 up. Places past the configuration's depots are neither read nor changed.
+// Kept as a full row with the number of depots elsewhere: no heap, and `KeptPast` says that the rest stays as found.
 #[derive(Clone, Copy, Debug, PartialEq, Eq)]
 pub struct LeaderState {
     pub n_leader: Ballot,
@@ -69,6 +71,7 @@ pub struct SetPromise {
 }
 
 // Where the depot of this pid stands in the row.
+// Kept as a number with a `requires`, here and in each call on a depot: a pid is what messages and C hand over, tested by the refusals.
 fn place(pid: u64) -> usize
     requires { own_place pid }
     ensures { result ≡ pid - 1 }
@@ -284,6 +287,7 @@ impl LeaderState {
 
     // The promise is kept at its depot's place and, where `check_max_prom` is set and it beats the best, becomes the best with its sync.
     // Told as well: whether a read quorum has promised.
+    // Kept: `check_max_prom` is a parameter of the Rust's, and `set_promise_of` takes it.
     pub fn set_promise(
         self,
         m: PromiseMetaData,

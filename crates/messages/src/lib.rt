@@ -5,6 +5,7 @@ ghost use Rattle.std.specs.Prelude.{◌≡◌};
 ghost use Rattle.messages.specs.Messages.{is_accept_decide, is_accepted, with_decided, with_accepted};
 
 use ballot::Ballot;
+use base::MAX_MESSAGES;
 use sequence::SequenceNumber;
 
 // A follower asks to be prepared again, and tells its promise.
@@ -87,6 +88,7 @@ pub struct PaxosMessage {
 }
 
 // A message of the outgoing queue: to whom, what, and where in the store its entries lie.
+// Kept as a start and a count: the store is lent and of fixed size, and its words are the C interface's.
 #[derive(Clone, Copy, Debug, PartialEq, Eq)]
 pub struct Head {
     pub to: u64,
@@ -96,9 +98,10 @@ pub struct Head {
 }
 
 // The row of heads by value. How many of them wait is the record's.
+// Kept as a full row with its length elsewhere: no heap, and what lies past the length stays as found.
 #[derive(Clone, Copy, Debug, PartialEq, Eq)]
 pub struct Row {
-    pub heads: [Head; 64],
+    pub heads: [Head; MAX_MESSAGES],
 }
 
 // What a step is given. The entries of a message or a proposal stand beside it.

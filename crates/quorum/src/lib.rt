@@ -20,6 +20,7 @@ pub enum Quorum {
 }
 
 // What every depot of a cluster is told: how many depots there are, its own pid, and the quorums.
+// Kept without an invariant: `stands` tells the configurations that do not stand, and C may give one.
 #[derive(Clone, Copy, Debug, PartialEq, Eq)]
 pub struct Configuration {
     pub depots: u64,
