@@ -1,5 +1,6 @@
 -- A refusal is known by its number, and so is an answer that has nothing beside it.
 use Rattle.std.specs.Prelude.{ℕ, ◌<◌, Result, Ok, Err, cond}
+use Rattle.std.specs.Result.{result_unwrap_or}
 use mathlib.Core.Path.{◌≡◌, refl, sym, ap, ◌∙◌}
 use native.Mathlib.Omega.{arith}
 use lib.Dec.{eqb}
@@ -39,8 +40,12 @@ number-positive QueueFull = omega arith
 number-positive AtTop = omega arith
 number-positive BufferFull = omega arith
 
+-- an answer is known by its number and the value beside it, which is d where there is none
+pub results_alike : {T : Type 0} (d : T) (a b : Result T Refusal) → answer_number a ≡ answer_number b → result_unwrap_or a d ≡ result_unwrap_or b d → a ≡ b
+results_alike d (Ok x) (Ok y) p q = ap Ok q
+results_alike d (Ok x) (Err e) p q = absurd (omega (arith, number-positive e))
+results_alike d (Err e) (Ok y) p q = absurd (omega (arith, number-positive e))
+results_alike d (Err e) (Err f) p q = ap Err (numbers_alike e f p)
+
 pub answers_alike : (a b : Result (Unit {0}) Refusal) → answer_number a ≡ answer_number b → a ≡ b
-answers_alike (Ok x) (Ok y) p = refl
-answers_alike (Ok x) (Err e) p = absurd (omega (arith, number-positive e))
-answers_alike (Err d) (Ok y) p = absurd (omega (arith, number-positive d))
-answers_alike (Err d) (Err e) p = ap (λ (x : Refusal). Err x) (numbers_alike d e p)
+answers_alike a b p = results_alike tt a b p refl

@@ -1,7 +1,8 @@
 -- What each call on a book gives: the answer and the book after it. Refusals stand in the order of R13.10 (docs/RULES.md), and each leaves the book as found.
-use Rattle.std.specs.Prelude.{ℕ, Bool, true, cond, not, List, ltb, leb, eqb, length, Result, Ok, Err}
+use Rattle.std.specs.Prelude.{ℕ, Bool, true, cond, not, List, ltb, leb, eqb, length, Result}
+use Rattle.std.specs.Result.{result_unwrap_or}
 use Rattle.base.specs.Limits.{pumps, max_entry}
-use Rattle.base.specs.Refusal.{number_of}
+use Rattle.base.specs.Refusal.{answer_number}
 use Rattle.base.specs.declared.Refusal.{Refusal}
 use Rattle.hire_book.specs.Book.{book_length, broken_of, apply_of, apply_all, any_above, fresh_book, charged, stored_days}
 
@@ -47,8 +48,7 @@ abbrev pub tell : ℕ → ℕ → Told
 tell number days = record { number = number; days = days }
 
 abbrev pub told : Result ℕ Refusal → Told
-told (Ok days) = tell 0 days
-told (Err refusal) = tell (number_of refusal) 0
+told r = tell (answer_number r) (result_unwrap_or r 0)
 
 -- a pump's stored days; a pump that is none is an index above its limit
 unfoldable pub charged_step : List ℕ → ℕ → Told

@@ -1,10 +1,12 @@
 -- Written by tools/pins --write, from the promises of crates/hire_book/src: any two outcomes that a call's own promise allows are one.
 use mathlib.Core.Path.{◌≡◌, sym, ◌∙◌, ap}
+use Rattle.base.proofs.Numbers.{answers_alike}
 use Rattle.hire_book.proofs.Told.{told-alike}
 use Rattle.hire_book.specs.Step.{Seen}
 use Rattle.pins.proofs.One.{One, OneAnswer}
 use Rattle.hire_book.proofs.any_broken.Reads as any-broken-reads
 use Rattle.hire_book.proofs.is_broken.Reads as is-broken-reads
+use Rattle.hire_book.proofs.check.Reads as check-reads
 use Rattle.hire_book.proofs.any_above.Reads as any-above-reads
 use Rattle.hire_book.proofs.apply_fit.Reads as apply-fit-reads
 use Rattle.hire_book.proofs.apply_run.Reads as apply-run-reads
@@ -21,6 +23,9 @@ any-broken κs a r₁ r₂ s₁ s₂ p q = p ∙ sym q
 pub is-broken : (κs : _) (a : _) → OneAnswer (is-broken-reads.Post κs a)
 is-broken κs a r₁ r₂ s₁ s₂ p q = p ∙ sym q
 
+pub check : (κs : _) (a : _) → OneAnswer (check-reads.Post κs a)
+check κs a r₁ r₂ s₁ s₂ p q = answers_alike r₁ r₂ (p.0 ∙ sym q.0)
+
 pub any-above : (κs : _) (a : _) → OneAnswer (any-above-reads.Post κs a)
 any-above κs a r₁ r₂ s₁ s₂ p q = p ∙ sym q
 
@@ -34,15 +39,15 @@ apply-run κs a r₁ r₂ s₁ s₂ p q = p ∙ sym q
 
 -- the answer, and at exit book
 pub apply : (κs : _) (a : _) → One (apply-reads.Post κs a) (λ r s r′ s′. (r ≡ r′) × (s.0.now ≡ s′.0.now))
-apply κs a r₁ r₂ s₁ s₂ p q = let e = p ∙ sym q in (ap (λ (x : Seen). x.answer) e, ap (λ (x : Seen). x.book) e)
+apply κs a r₁ r₂ s₁ s₂ p q = let e = p ∙ sym q in (answers_alike r₁ r₂ (ap (λ (x : Seen). x.answer) e), ap (λ (x : Seen). x.book) e)
 
 -- the answer, and at exit book
 pub apply-all : (κs : _) (a : _) → One (apply-all-reads.Post κs a) (λ r s r′ s′. (r ≡ r′) × (s.0.now ≡ s′.0.now))
-apply-all κs a r₁ r₂ s₁ s₂ p q = let e = p ∙ sym q in (ap (λ (x : Seen). x.answer) e, ap (λ (x : Seen). x.book) e)
+apply-all κs a r₁ r₂ s₁ s₂ p q = let e = p ∙ sym q in (answers_alike r₁ r₂ (ap (λ (x : Seen). x.answer) e), ap (λ (x : Seen). x.book) e)
 
 -- the answer, and at exit book
 pub fresh : (κs : _) (a : _) → One (fresh-reads.Post κs a) (λ r s r′ s′. (r ≡ r′) × (s.0.now ≡ s′.0.now))
-fresh κs a r₁ r₂ s₁ s₂ p q = let e = p ∙ sym q in (ap (λ (x : Seen). x.answer) e, ap (λ (x : Seen). x.book) e)
+fresh κs a r₁ r₂ s₁ s₂ p q = let e = p ∙ sym q in (answers_alike r₁ r₂ (ap (λ (x : Seen). x.answer) e), ap (λ (x : Seen). x.book) e)
 
 pub charged-days : (κs : _) (a : _) → OneAnswer (charged-days-reads.Post κs a)
 charged-days κs a r₁ r₂ s₁ s₂ p q = told-alike r₁ r₂ (p ∙ sym q)

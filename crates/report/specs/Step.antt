@@ -1,6 +1,7 @@
 -- What each call gives: the answer and everything lent. Refusals stand in the order of R2.0 (docs/RULES.md), and each leaves all as found.
-use Rattle.std.specs.Prelude.{ℕ, ◌≤◌, ◌≡◌, cond, List, [], ◌∷◌, ◌++◌, length, take, drop, ltb, Result, Ok, Err}
-use Rattle.base.specs.Refusal.{number_of}
+use Rattle.std.specs.Prelude.{ℕ, ◌≤◌, ◌≡◌, cond, List, [], ◌∷◌, ◌++◌, length, take, drop, ltb, Result}
+use Rattle.std.specs.Result.{result_unwrap_or}
+use Rattle.base.specs.Refusal.{answer_number}
 use Rattle.base.specs.declared.Refusal.{Refusal}
 use Rattle.page.specs.Page.{report_bytes}
 use Rattle.hire_book.specs.Book.{broken_of, fresh_book}
@@ -15,8 +16,7 @@ pub record SeenFed : Type 0 where
 
 -- refused, the caller goes on with the reader that it passed
 abbrev pub seen_fed : Result Reader Refusal → Reader → List ℕ → SeenFed
-seen_fed (Ok after) reader book = record { answer = 0; reading = reading after book }
-seen_fed (Err refusal) reader book = record { answer = number_of refusal; reading = reading reader book }
+seen_fed r reader book = record { answer = answer_number r; reading = reading (result_unwrap_or r reader) book }
 
 unfoldable pub feed_step : Reading → List ℕ → SeenFed
 feed_step d part =
@@ -30,8 +30,7 @@ pub record SeenReport : Type 0 where
   pub out : List ℕ
 
 abbrev pub seen_report : Result ℕ Refusal → List ℕ → List ℕ → SeenReport
-seen_report (Ok count) book out = record { answer = 0; count = count; book = book; out = out }
-seen_report (Err refusal) book out = record { answer = number_of refusal; count = 0; book = book; out = out }
+seen_report r book out = record { answer = answer_number r; count = result_unwrap_or r 0; book = book; out = out }
 
 -- text at the start of the buffer, whose further bytes stay as found
 abbrev pub written : List ℕ → Reading → List ℕ → SeenReport
