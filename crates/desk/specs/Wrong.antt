@@ -1,6 +1,7 @@
 -- Wrong answers that each promise rules out. `Post κs a r s` is what a call's own promise says of the arguments a, the answer r and what is lent at exit s.
 use Rattle.std.specs.Prelude.{ℕ, ◌+◌, ◌<◌, ◌≡◌, ◌≢◌, true, List, [], ◌∷◌, length, get_or, drop}
 use Rattle.base.specs.Limits.{pumps, max_entry}
+use Rattle.base.specs.Refusal.{answer_number}
 use Rattle.quorum.specs.declared.Configuration.{Configuration}
 use Rattle.messages.specs.declared.Event.{Event}
 use Rattle.messages.specs.declared.Head.{Head}
@@ -38,9 +39,9 @@ pub record Wrong : Type 1 where
   pub heads-refused : (c : Configuration) (e : Event) (entries : List ℕ) (w : World) (x : Stepped) (h : List Head) (l : Lent) → seen_heads x h l ≡ step_heads c e entries w → x.answer.no ≢ 0 → (k : ℕ) → get_or h k no_head ≡ get_or w.row.heads k no_head
   -- hire_book::apply_all: where one entry is above its limit none is applied; two entries are applied in their order
   pub none-applied : (κs : _) (a : _) (r : _) (s : _) → apply-all-reads.Post κs a r s → any_above a.1.0.now ≡ true → s.0.now ≡ a.0.now
-  pub in_order : (κs : _) (a : _) (r : _) (s : _) (d e : ℕ) → apply-all-reads.Post κs a r s → r ≡ 0 → a.1.0.now ≡ d ∷ e ∷ [] → s.0.now ≡ apply_of e (apply_of d a.0.now)
+  pub in_order : (κs : _) (a : _) (r : _) (s : _) (d e : ℕ) → apply-all-reads.Post κs a r s → answer_number r ≡ 0 → a.1.0.now ≡ d ∷ e ∷ [] → s.0.now ≡ apply_of e (apply_of d a.0.now)
   -- hire_book::fresh: a slice of the wrong length is as found; a book is cleared, every cell of it
-  pub book-off : (κs : _) (a : _) (r : _) (s : _) → fresh-reads.Post κs a r s → length a.0.now ≢ book_length → (r ≡ 1) × (s.0.now ≡ a.0.now)
+  pub book-off : (κs : _) (a : _) (r : _) (s : _) → fresh-reads.Post κs a r s → length a.0.now ≢ book_length → (answer_number r ≡ 1) × (s.0.now ≡ a.0.now)
   pub book-cleared : (κs : _) (a : _) (r : _) (s : _) → fresh-reads.Post κs a r s → length a.0.now ≡ book_length → s.0.now ≡ fresh_book
   -- hire_book::any_above: one above the limit by one is seen, and in the second place too
   pub second-seen : (κs : _) (a : _) (r : _) (s : _) → any-above-reads.Post κs a r s → a.0.now ≡ 0 ∷ (max_entry + 1) ∷ [] → r ≡ true
