@@ -4,8 +4,8 @@
 ghost use Rattle.std.specs.Prelude.{◌≡◌, ◌≤◌, length};
 ghost use Rattle.base.specs.Limits.{max_depots, max_messages};
 ghost use Rattle.hire_book.specs.Book.{book_length};
-ghost use Rattle.broken.specs.Lent.{lent};
-ghost use Rattle.broken.specs.Broken.{buffer_above, held_above, best_sync, sync_in, cached_sync, kept_above, over_limit, meta_past, position_past, head_off, held_past, sync_past, leader_off, cached_foreign, meta_foreign, kept_foreign, message_default, state_broken, record_broken};
+ghost use Rattle.broken.specs.Lent.{lent_of};
+ghost use Rattle.broken.specs.Broken.{buffer_above, held_above, best_sync, cached_sync, kept_above, over_limit, meta_past, position_past, head_off, held_past, sync_past, leader_off, cached_foreign, meta_foreign, kept_foreign, message_default, state_broken, record_broken};
 
 use base::{MAX_BUFFERED, MAX_LOG, MAX_MESSAGES};
 use leader_state::LogSync;
@@ -14,88 +14,68 @@ use paxos_box::{AcceptedAt, CachedPromise};
 use quorum::Configuration;
 use record::Record;
 
+// What a caller lends a step to be read beside record and row. The five travel together.
+#[derive(Clone, Copy)]
+pub struct Lists<'a> {
+    pub log: &'a [u64],
+    pub cached: &'a [u64],
+    pub best: &'a [u64],
+    pub store: &'a [u64],
+    pub book: &'a [u64],
+}
+
 fn buffer_above(r: Record) -> bool
     ensures { result ≡ buffer_above r }
 {
-    let b = r.buffered_proposals;
-    let entries = b.entries;
-    hire_book::any_above(sight::part(&entries, 0, b.len))
+    let b = &r.buffered_proposals;
+    hire_book::any_above(storage::first(&b.entries, b.len))
 }
 
 fn held_above(sync: Option<LogSync>, buffer: &[u64]) -> bool
     ensures { result ≡ held_above sync buffer.now }
 {
-    match sync {
-        None => false,
-        Some(x) => hire_book::any_above(sight::part(buffer, 0, x.len)),
-    }
-}
-
-fn sync_in(m: Option<CachedPromise>) -> Option<LogSync>
-    ensures { result ≡ sync_in m }
-{
-    match m {
-        None => None,
-        Some(p) => p.sync,
-    }
+    sync.is_some_and(|x| hire_book::any_above(storage::first(buffer, x.len)))
 }
 
 fn cached_sync(r: Record) -> Option<LogSync>
     ensures { result ≡ cached_sync r }
 {
-    sync_in(r.cached_promise_message)
+    match r.cached_promise_message {
+        None => None,
+        Some(p) => p.sync,
+    }
 }
 
 fn best_sync(r: Record) -> Option<LogSync>
     ensures { result ≡ best_sync r }
 {
-    let l = r.leader_state;
-    let m = l.max_promise;
-    m.sync
+    r.leader_state.max_promise.sync
 }
 
 // A kept entry above its limit. Cells past a length are not read.
 #[tactic(auto, unfolding(crate::specs::Broken::kept_above))]
-fn kept_above(r: Record, row: Row, log: &[u64], cached: &[u64], best: &[u64], store: &[u64]) -> bool
+fn kept_above(r: Record, row: Row, lists: Lists) -> bool
     requires { r.outgoing ≤ max_messages }
-    ensures { result ≡ kept_above r row log.now cached.now best.now store.now }
+    ensures { result ≡ kept_above r row lists.entry.log.now lists.entry.cached.now lists.entry.best.now lists.entry.store.now }
 {
-    let t = r.internal_storage;
-    let of_best = best_sync(r);
-    let of_cached = cached_sync(r);
-    if hire_book::any_above(sight::part(log, 0, t.accepted_idx)) {
-        return true;
-    }
-    if buffer_above(r) {
-        return true;
-    }
-    if held_above(of_cached, cached) {
-        return true;
-    }
-    if held_above(of_best, best) {
-        return true;
-    }
-    heads::any_head_above(row, r.outgoing, store)
+    hire_book::any_above(storage::first(lists.log, r.internal_storage.accepted_idx))
+        || buffer_above(r)
+        || held_above(cached_sync(r), lists.cached)
+        || held_above(best_sync(r), lists.best)
+        || heads::any_head_above(row, r.outgoing, lists.store)
 }
 
 #[tactic(auto, unfolding(crate::specs::Broken::over_limit))]
 fn over_limit(r: Record) -> bool
     ensures { result ≡ over_limit r }
 {
-    if MAX_MESSAGES < r.outgoing {
-        return true;
-    }
-    let b = r.buffered_proposals;
-    MAX_BUFFERED < b.len
+    MAX_MESSAGES < r.outgoing || MAX_BUFFERED < r.buffered_proposals.len
 }
 
 fn meta_past(len: usize, m: Option<AcceptedAt>) -> bool
     ensures { result ≡ meta_past len m }
 {
-    match m {
-        None => false,
-        Some(a) => len <= a.at,
-    }
+    m.is_some_and(|a| len <= a.at)
 }
 
 // A remembered position at or past the queue's end.
@@ -104,11 +84,8 @@ fn position_past(c: Configuration, r: Record) -> bool
     requires { c.depots ≤ max_depots }
     ensures { result ≡ position_past c r }
 {
-    let l = r.leader_state;
-    if places::any_past(l, c.depots, r.outgoing) {
-        return true;
-    }
-    meta_past(r.outgoing, r.latest_accepted_meta)
+    places::any_past(r.leader_state, c.depots, r.outgoing)
+        || meta_past(r.outgoing, r.latest_accepted_meta)
 }
 
 // A head whose entries lie outside the store or overlap another's.
@@ -117,19 +94,13 @@ fn head_off(r: Record, row: Row) -> bool
     requires { r.outgoing ≤ max_messages }
     ensures { result ≡ head_off r row }
 {
-    if heads::any_outside(row, r.outgoing) {
-        return true;
-    }
-    heads::any_overlap(row, r.outgoing)
+    heads::any_outside(row, r.outgoing) || heads::any_overlap(row, r.outgoing)
 }
 
 fn held_past(sync: Option<LogSync>) -> bool
     ensures { result ≡ held_past sync }
 {
-    match sync {
-        None => false,
-        Some(x) => log_plan::ends_past(x),
-    }
+    sync.is_some_and(log_plan::ends_past)
 }
 
 // A held sync ending past the log's limit.
@@ -137,12 +108,7 @@ fn held_past(sync: Option<LogSync>) -> bool
 fn sync_past(r: Record) -> bool
     ensures { result ≡ sync_past r }
 {
-    let of_best = best_sync(r);
-    let of_cached = cached_sync(r);
-    if held_past(of_best) {
-        return true;
-    }
-    held_past(of_cached)
+    held_past(best_sync(r)) || held_past(cached_sync(r))
 }
 
 // A Leader whose ballot's pid is not its own.
@@ -150,32 +116,19 @@ fn sync_past(r: Record) -> bool
 fn leader_off(c: Configuration, r: Record) -> bool
     ensures { result ≡ leader_off c r }
 {
-    let s = r.state;
-    let role = s.role;
-    let l = r.leader_state;
-    let n = l.n_leader;
-    if role.is_leader() {
-        return n.pid != c.pid;
-    }
-    false
+    r.state.role.is_leader() && r.leader_state.n_leader.pid != c.pid
 }
 
 fn cached_foreign(c: Configuration, m: Option<CachedPromise>) -> bool
     ensures { result ≡ cached_foreign c m }
 {
-    match m {
-        None => false,
-        Some(p) => unfit::either_foreign(c, p.n, p.n_accepted),
-    }
+    m.is_some_and(|p| unfit::either_foreign(c, p.n, p.n_accepted))
 }
 
 fn meta_foreign(c: Configuration, m: Option<AcceptedAt>) -> bool
     ensures { result ≡ meta_foreign c m }
 {
-    match m {
-        None => false,
-        Some(a) => unfit::foreign(c, a.n),
-    }
+    m.is_some_and(|a| unfit::foreign(c, a.n))
 }
 
 // A kept nonzero ballot whose pid is no depot.
@@ -185,36 +138,22 @@ fn kept_foreign(c: Configuration, r: Record, row: Row) -> bool
     requires outgoing_le_max_messages { r.outgoing ≤ max_messages }
     ensures { result ≡ kept_foreign c r row }
 {
-    let t = r.internal_storage;
     let l = r.leader_state;
-    let best = l.max_promise;
-    let m = r.cached_promise_message;
-    let meta = r.latest_accepted_meta;
-    if unfit::either_foreign(c, t.promise, t.accepted_round) {
-        return true;
-    }
-    if unfit::either_foreign(c, l.n_leader, best.meta.n_accepted) {
-        return true;
-    }
-    if places::any_foreign(l, c.depots, c) {
-        return true;
-    }
-    if cached_foreign(c, m) {
-        return true;
-    }
-    if meta_foreign(c, meta) {
-        return true;
-    }
-    heads::any_foreign(row, r.outgoing, c)
+    unfit::either_foreign(
+        c,
+        r.internal_storage.promise,
+        r.internal_storage.accepted_round,
+    ) || unfit::either_foreign(c, l.n_leader, l.max_promise.meta.n_accepted)
+        || places::any_foreign(l, c.depots, c)
+        || cached_foreign(c, r.cached_promise_message)
+        || meta_foreign(c, r.latest_accepted_meta)
+        || heads::any_foreign(row, r.outgoing, c)
 }
 
 fn message_default(m: Option<CachedPromise>) -> bool
     ensures { result ≡ message_default m }
 {
-    match m {
-        None => false,
-        Some(p) => ballot::Ballot::is_default(p.n),
-    }
+    m.is_some_and(|p| p.n.is_default())
 }
 
 // What record and row alone say.
@@ -224,62 +163,26 @@ fn state_broken(c: Configuration, r: Record, row: Row) -> bool
     requires outgoing_le_max_messages { r.outgoing ≤ max_messages }
     ensures { result ≡ state_broken c r row }
 {
-    let l = r.leader_state;
-    let m = r.cached_promise_message;
-    if position_past(c, r) {
-        return true;
-    }
-    if head_off(r, row) {
-        return true;
-    }
-    if places::any_misplaced(l, c.depots) {
-        return true;
-    }
-    if sync_past(r) {
-        return true;
-    }
-    if leader_off(c, r) {
-        return true;
-    }
-    if kept_foreign(c, r, row) {
-        return true;
-    }
-    message_default(m)
+    position_past(c, r)
+        || head_off(r, row)
+        || places::any_misplaced(r.leader_state, c.depots)
+        || sync_past(r)
+        || leader_off(c, r)
+        || kept_foreign(c, r, row)
+        || message_default(r.cached_promise_message)
 }
 
 // Refusal 2. The queue's length is tested before its heads are read.
 #[tactic(auto, unfolding(crate::specs::Broken::record_broken, crate::specs::Broken::over_limit))]
-pub fn broken(
-    c: Configuration,
-    r: Record,
-    row: Row,
-    log: &[u64],
-    cached: &[u64],
-    best: &[u64],
-    store: &[u64],
-    book: &[u64],
-) -> bool
+pub fn broken(c: Configuration, r: Record, row: Row, lists: Lists) -> bool
     requires depots_le_max_depots { c.depots ≤ max_depots }
-    requires book_len { length book.now ≡ book_length }
-    ensures { result ≡ record_broken c r row (lent log.now cached.now best.now store.now book.now) }
+    requires book_len { length lists.book.now ≡ book_length }
+    ensures { result ≡ record_broken c r row (lent_of lists.entry) }
 {
-    let t = r.internal_storage;
-    let len = t.accepted_idx;
-    let decided = t.decided_idx;
-    if len < decided {
-        return true;
-    }
-    if MAX_LOG < len {
-        return true;
-    }
-    if over_limit(r) {
-        return true;
-    }
-    if kept_above(r, row, log, cached, best, store) {
-        return true;
-    }
-    if state_broken(c, r, row) {
-        return true;
-    }
-    hire_book::any_broken(book)
+    r.internal_storage.accepted_idx < r.internal_storage.decided_idx
+        || MAX_LOG < r.internal_storage.accepted_idx
+        || over_limit(r)
+        || kept_above(r, row, lists)
+        || state_broken(c, r, row)
+        || hire_book::any_broken(lists.book)
 }

@@ -61,7 +61,7 @@ pub fn any_head_above(row: Row, len: usize, store: &[u64]) -> bool
     ensures { result ≡ any_head (head_above store.now) row len }
 {
     any_head(row, len, |h| {
-        hire_book::any_above(sight::part(store, h.start, h.count))
+        hire_book::any_above(storage::part(store, h.start, h.count))
     })
 }
 

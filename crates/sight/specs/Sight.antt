@@ -1,6 +1,6 @@
 -- What deciding needs of the lists, in numbers: what stands at a remembered position of the queue, the first place of the log that a sync
 -- would change, and how many entries the queue carries.
-use Rattle.std.specs.Prelude.{ℕ, zero, suc, ◌-◌, Bool, false, cond, not, ◌&&◌, List, leb, ltb, eqb, length, get_or, take, drop, Option, None, Some}
+use Rattle.std.specs.Prelude.{ℕ, zero, suc, ◌-◌, Bool, false, cond, not, ◌&&◌, ◌≡◌, List, leb, ltb, eqb, length, get_or, take, drop, Option, None, Some}
 use Rattle.hire_book.specs.Below.{sum_below}
 use Rattle.paxos_box.specs.declared.AcceptedAt.{AcceptedAt}
 use Rattle.leader_state.specs.declared.LogSync.{LogSync}
@@ -70,6 +70,10 @@ brought_change (Some start) log len entries = first_change log len start entries
 -- the head at a place of the row
 abbrev pub head_at : Row → ℕ → Head
 head_at row i = get_or row.heads i no_head
+
+-- what a test answers, passed in and asked of a message, is what f says
+pub record TellsMessage (answers : PaxosMsg → Bool → Type 0) (f : PaxosMsg → Bool) : Type 0 where
+  pub at : (m : PaxosMsg) (r : Bool) → answers m r → r ≡ f m
 
 -- a remembered position lies in the queue, and an AcceptDecide (an Accepted) stands there
 unfoldable pub accdec_at : Row → ℕ → ℕ → Bool

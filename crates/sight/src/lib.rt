@@ -2,40 +2,23 @@
 // would change, and how many entries the queue carries.
 #![tactic(auto)]
 
-ghost use Rattle.std.specs.Prelude.{◌≡◌, ◌≤◌, get_or};
+ghost use Rattle.std.specs.Prelude.{Bool, false, ◌&&◌, ltb, ◌≡◌, ◌≤◌, get_or};
 ghost use Rattle.base.specs.Limits.{max_depots, max_messages, max_store};
-ghost use Rattle.sight.specs.Sight.{part_of, changes_at, first_change, held_change, sync_in, brought, brought_change, accdec_at, accepted_at, accdec_on, accepted_on, accdec_marks, accepted_mark, queue_entries, sight_of};
+ghost use Rattle.messages.specs.Messages.{no_head};
+ghost use Rattle.messages.specs.declared.PaxosMsg.{PaxosMsg};
+ghost use Rattle.sight.specs.Sight.{changes_at, first_change, held_change, sync_in, brought, brought_change, head_at, TellsMessage, accdec_on, accepted_on, accdec_marks, accepted_mark, queue_entries, sight_of};
 
-use base::MAX_MESSAGES;
 use leader_state::LogSync;
 use messages::{Event, PaxosMsg, Row};
 use paxos_box::{AcceptedAt, Sight};
 use quorum::Configuration;
 use record::Record;
 
-// n cells of a slice from a place on, as many as there are.
-pub fn part(s: &[u64], start: usize, n: usize) -> &[u64]
-    ensures { result.now ≡ part_of start n s.now }
-{
-    let end = s.len();
-    if end < start {
-        return &s[end..end];
-    }
-    if n < end - start {
-        let stop = start + n;
-        return &s[start..stop];
-    }
-    &s[start..end]
-}
-
 // What stands at a place, 0 past the end.
 fn at(s: &[u64], i: usize) -> u64
     ensures { result ≡ get_or s.now i 0 }
 {
-    if i < s.len() {
-        return s[i];
-    }
-    0
+    s.get(i).copied().unwrap_or(0)
 }
 
 // Whether putting the suffix from `start` on changes place i of the log.
@@ -43,14 +26,7 @@ fn at(s: &[u64], i: usize) -> u64
 fn changes_at(log: &[u64], start: usize, suffix: &[u64], i: usize) -> bool
     ensures { result ≡ changes_at log.now start suffix.now i }
 {
-    if i < start {
-        return false;
-    }
-    let j = i - start;
-    if suffix.len() <= j {
-        return false;
-    }
-    at(log, i) != suffix[j]
+    start <= i && i - start < suffix.len() && at(log, i) != suffix[i - start]
 }
 
 // The first place below `len` that the suffix changes, `len` where it changes none.
@@ -58,12 +34,10 @@ fn changes_at(log: &[u64], start: usize, suffix: &[u64], i: usize) -> bool
 pub fn first_change(log: &[u64], len: usize, start: usize, suffix: &[u64]) -> usize
     ensures { result ≡ first_change log.now len start suffix.now }
 {
-    let mut i: usize = 0;
-    while i < len {
+    for i in 0..len {
         if changes_at(log, start, suffix, i) {
             return i;
         }
-        i += 1;
     }
     len
 }
@@ -73,7 +47,7 @@ pub fn held_change(sync: Option<LogSync>, log: &[u64], len: usize, best: &[u64])
 {
     match sync {
         None => len,
-        Some(x) => first_change(log, len, x.sync_idx, part(best, 0, x.len)),
+        Some(x) => first_change(log, len, x.sync_idx, storage::first(best, x.len)),
     }
 }
 
@@ -81,15 +55,9 @@ fn sync_in(m: PaxosMsg) -> Option<usize>
     ensures { result ≡ sync_in m }
 {
     match m {
-        PaxosMsg::PrepareReq(_) => None,
-        PaxosMsg::Prepare(_) => None,
         PaxosMsg::Promise(p) => p.log_sync,
         PaxosMsg::AcceptSync(a) => Some(a.sync_idx),
-        PaxosMsg::AcceptDecide(_) => None,
-        PaxosMsg::Accepted(_) => None,
-        PaxosMsg::NotAccepted(_) => None,
-        PaxosMsg::Decide(_) => None,
-        PaxosMsg::ProposalForward => None,
+        _ => None,
     }
 }
 
@@ -98,16 +66,8 @@ pub fn brought_sync(e: Event) -> Option<usize>
     ensures { result ≡ brought e }
 {
     match e {
-        Event::Message(m) => {
-            let msg = m.msg;
-            sync_in(msg)
-        }
-        Event::Propose => None,
-        Event::Leader(_) => None,
-        Event::Reconnect(_) => None,
-        Event::Resend => None,
-        Event::Drain => None,
-        Event::Restart => None,
+        Event::Message(m) => sync_in(m.msg),
+        _ => None,
     }
 }
 
@@ -120,51 +80,31 @@ pub fn brought_change(sync: Option<usize>, log: &[u64], len: usize, entries: &[u
     }
 }
 
+// Whether a remembered position lies in the queue, and a message that passes the test stands there.
+fn waits<F: Fn(PaxosMsg) -> bool>(row: &Row, len: usize, at: usize, test: F) -> bool
+    requires { F.IsAlwaysCallable test }
+    ensures { (f : PaxosMsg → Bool) → TellsMessage (F.post test) f → f no_head.msg ≡ false → result ≡ (ltb at len && f (head_at row.now at).msg) }
+{
+    at < len && row.heads.get(at).is_some_and(|h| test(h.msg))
+}
+
 #[tactic(auto, unfolding(crate::specs::Sight::accdec_at))]
-fn accdec_at(row: Row, len: usize, at: usize) -> bool
-    ensures { result ≡ accdec_at row len at }
-{
-    if len <= at {
-        return false;
-    }
-    if MAX_MESSAGES <= at {
-        return false;
-    }
-    let h = row.heads[at];
-    let m = h.msg;
-    m.is_accept_decide()
-}
-
-#[tactic(auto, unfolding(crate::specs::Sight::accepted_at))]
-fn accepted_at(row: Row, len: usize, at: usize) -> bool
-    ensures { result ≡ accepted_at row len at }
-{
-    if len <= at {
-        return false;
-    }
-    if MAX_MESSAGES <= at {
-        return false;
-    }
-    let h = row.heads[at];
-    let m = h.msg;
-    m.is_accepted()
-}
-
-fn accdec_on(row: Row, len: usize, latest: Option<usize>) -> bool
-    ensures { result ≡ accdec_on row len latest }
+fn accdec_on(row: &Row, len: usize, latest: Option<usize>) -> bool
+    ensures { result ≡ accdec_on row.now len latest }
 {
     match latest {
         None => false,
-        Some(at) => accdec_at(row, len, at),
+        Some(at) => waits(row, len, at, |m| m.is_accept_decide()),
     }
 }
 
-fn accepted_on(row: Row, len: usize, meta: Option<AcceptedAt>) -> bool
-    ensures { result ≡ accepted_on row len meta }
+#[tactic(auto, unfolding(crate::specs::Sight::accepted_at))]
+fn accepted_on(row: &Row, len: usize, meta: Option<AcceptedAt>) -> bool
+    ensures { result ≡ accepted_on row.now len meta }
 {
     match meta {
         None => false,
-        Some(a) => accepted_at(row, len, a.at),
+        Some(a) => waits(row, len, a.at, |m| m.is_accepted()),
     }
 }
 
@@ -174,15 +114,10 @@ pub fn accdec_marks(c: Configuration, r: Record, row: Row) -> [bool; 7]
     requires { c.depots ≤ max_depots }
     ensures { result ≡ accdec_marks c r row }
 {
-    let end = c.depots;
-    let len = r.outgoing;
-    let l = r.leader_state;
     let mut marks = [false; 7];
-    let mut pid: u64 = 0;
-    while pid < end {
-        let i = pid as usize;
-        pid += 1;
-        marks[i] = accdec_on(row, len, l.get_latest_accept_meta(pid));
+    for i in 0..c.depots as usize {
+        let latest = r.leader_state.get_latest_accept_meta(i as u64 + 1);
+        marks[i] = accdec_on(&row, r.outgoing, latest);
     }
     marks
 }
@@ -191,7 +126,7 @@ pub fn accdec_marks(c: Configuration, r: Record, row: Row) -> [bool; 7]
 pub fn accepted_mark(r: Record, row: Row) -> bool
     ensures { result ≡ accepted_mark r row }
 {
-    accepted_on(row, r.outgoing, r.latest_accepted_meta)
+    accepted_on(&row, r.outgoing, r.latest_accepted_meta)
 }
 
 // How many entries the first `len` messages of the row carry: what a record that is not broken has fits the store.
@@ -201,12 +136,9 @@ pub fn queue_entries(row: Row, len: usize) -> usize
     requires len_bound { queue_entries row len ≤ max_store }
     ensures { result ≡ queue_entries row len }
 {
-    let mut sum: usize = 0;
-    let mut i: usize = 0;
-    while i < len {
-        let h = row.heads[i];
+    let mut sum = 0;
+    for h in &row.heads[..len] {
         sum += h.count;
-        i += 1;
     }
     sum
 }
@@ -224,19 +156,11 @@ pub fn sight_of(
     requires { c.depots ≤ max_depots }
     ensures { result ≡ sight_of c r row e log.now best.now entries.now }
 {
-    let t = r.internal_storage;
-    let len = t.accepted_idx;
-    let l = r.leader_state;
-    let m = l.max_promise;
-    let accdec = accdec_marks(c, r, row);
-    let accepted = accepted_mark(r, row);
-    let sync = m.sync;
-    let held = held_change(sync, log, len, best);
-    let change = brought_change(brought_sync(e), log, len, entries);
+    let len = r.internal_storage.accepted_idx;
     Sight {
-        accdec,
-        accepted,
-        held_change: held,
-        brought_change: change,
+        accdec: accdec_marks(c, r, row),
+        accepted: accepted_mark(r, row),
+        held_change: held_change(r.leader_state.max_promise.sync, log, len, best),
+        brought_change: brought_change(brought_sync(e), log, len, entries),
     }
 }

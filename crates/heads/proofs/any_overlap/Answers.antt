@@ -3,19 +3,19 @@ use Rattle.std.proofs.Common.{◌≡◌, arith, sym, ◌∙◌}
 use lib.ListN.{length-take}
 use Rattle.messages.specs.declared.Head.{Head}
 use Rattle.hire_book.proofs.Below.{found, none_more}
+use Rattle.sight.proofs.Heads.{shown, in_row}
 use Rattle.heads.specs.Heads.{any_head, heads_overlap, overlaps, any_overlap}
-use Rattle.heads.proofs.Tells.{shown, in_row}
 use Rattle.heads.proofs.any_overlap.Goals as goal
 
 pub returns-then-overlaps_before : goal.returns-then-overlaps_before
 unfolding any_overlap
 returns-then-overlaps_before c =
-    let e = shown (λ (x : Head). c.overlaps_before.result ≡ any_head (heads_overlap x) c.args.row c.loop-j.j) c.args.row c.args.len c.loop-j.j _ c.loop-j-test.true c.overlaps_before.ensures in
+    let e = shown c.args.row c.args.len c.loop-j.j c.loop-j-test.true (λ (x : Head). c.overlaps_before.result ≡ any_head (heads_overlap x) c.args.row c.loop-j.j) _ c.overlaps_before.ensures in
     sym (found (overlaps c.args.row) c.args.len c.loop-j.j (in_row c.args.row c.args.len c.loop-j.j c.loop-j-test.true) (sym e ∙ c.if-overlaps_before.true))
 
 pub loop-j-preserved : goal.loop-j-preserved
 loop-j-preserved c =
-    let e = shown (λ (x : Head). c.overlaps_before.result ≡ any_head (heads_overlap x) c.args.row c.loop-j.j) c.args.row c.args.len c.loop-j.j _ c.loop-j-test.true c.overlaps_before.ensures in
+    let e = shown c.args.row c.args.len c.loop-j.j c.loop-j-test.true (λ (x : Head). c.overlaps_before.result ≡ any_head (heads_overlap x) c.args.row c.loop-j.j) _ c.overlaps_before.ensures in
     none_more (overlaps c.args.row) c.loop-j.j c.loop-j.invariant (sym e ∙ c.if-overlaps_before.false)
 
 pub returns : goal.returns

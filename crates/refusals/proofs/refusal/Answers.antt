@@ -1,11 +1,11 @@
 -- `refusals::refusal` meets its contract: where refusal 1 is not given, refusal 2 may be tested.
 use mathlib.Core.Path.{sym, ◌∙◌}
-use Rattle.broken.specs.Lent.{lent}
+use Rattle.broken.specs.Lent.{lent_of}
 use Rattle.refusals.proofs.Says.{call-says}
 use Rattle.refusals.proofs.refusal.Goals as goal
 
 pub broken-requires-clause-depots_le_max_depots : goal.broken-requires-clause-depots_le_max_depots
-broken-requires-clause-depots_le_max_depots c = let s = call-says c.args.c (lent c.args.log.now c.args.cached.now c.args.best.now c.args.store.now c.args.book.now) (sym c.wrong_call.ensures ∙ c.if-wrong_call.false) in s.0.most
+broken-requires-clause-depots_le_max_depots c = let s = call-says c.args.c (lent_of c.args.lists) (sym c.wrong_call.ensures ∙ c.if-wrong_call.false) in s.0.most
 
 pub broken-requires-clause-book_len : goal.broken-requires-clause-book_len
-broken-requires-clause-book_len c = let s = call-says c.args.c (lent c.args.log.now c.args.cached.now c.args.best.now c.args.store.now c.args.book.now) (sym c.wrong_call.ensures ∙ c.if-wrong_call.false) in s.1.book
+broken-requires-clause-book_len c = let s = call-says c.args.c (lent_of c.args.lists) (sym c.wrong_call.ensures ∙ c.if-wrong_call.false) in s.1.book
