@@ -20,13 +20,10 @@ fn not_accepted(s: SequencePaxos, n: Ballot) -> SequencePaxos
     ensures value { result ≡ not_accepted n s }
     ensures room { Room result }
 {
-    let own = s.internal_storage.promise;
-    s.push_send(Send {
-        to: n.pid,
-        what: Sent::New(PaxosMsg::NotAccepted(NotAccepted { n: own })),
-        source: Source::Nothing,
-        count: 0,
-    })
+    let m = NotAccepted {
+        n: s.internal_storage.promise,
+    };
+    s.send_new(n.pid, PaxosMsg::NotAccepted(m), Source::Nothing, 0)
 }
 
 // Whether a message's ballot is the own promise. A lower one gets NotAccepted, a higher one `reconnected`.
@@ -50,13 +47,9 @@ fn push_accepted(s: SequencePaxos, n: Ballot, accepted_idx: usize, to: u64) -> S
     ensures room { Room result }
 {
     let at = s.next_place();
+    let m = Accepted { n, accepted_idx };
     s.set_latest_accepted(Some(AcceptedAt { n, at }))
-        .push_send(Send {
-            to,
-            what: Sent::New(PaxosMsg::Accepted(Accepted { n, accepted_idx })),
-            source: Source::Nothing,
-            count: 0,
-        })
+        .send_new(to, PaxosMsg::Accepted(m), Source::Nothing, 0)
 }
 
 #[tactic(auto, unfolding(crate::specs::Accepting::acceptsync_taken, crate::specs::Accepting::acceptsync_put, crate::specs::Accepting::following, log_plan::specs::Log::sync_unfit, log_plan::specs::Log::ends_past))]

@@ -8,7 +8,7 @@ ghost use Rattle.follower.specs.Follower.{promised_sync, start_of, count_of, log
 use ballot::Ballot;
 use leader_state::LogSync;
 use messages::{PaxosMsg, Prepare, Promise};
-use paxos_box::{CachedPromise, Phase, Role, Send, Sent, SequencePaxos, Source};
+use paxos_box::{CachedPromise, Phase, Role, SequencePaxos, Source};
 use sends::Each;
 use sequence::SequenceNumber;
 
@@ -94,12 +94,7 @@ fn send_promise(s: SequencePaxos, to: u64, p: CachedPromise, source: Source) -> 
         accepted_idx: p.accepted_idx,
         log_sync: start_of(p.sync),
     };
-    s.push_send(Send {
-        to,
-        what: Sent::New(PaxosMsg::Promise(promise)),
-        source,
-        count: count_of(p.sync),
-    })
+    s.send_new(to, PaxosMsg::Promise(promise), source, count_of(p.sync))
 }
 
 #[tactic(auto, unfolding(crate::specs::Follower::cache_promise))]
