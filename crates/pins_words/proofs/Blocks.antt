@@ -4,7 +4,6 @@ use Rattle.pins.proofs.One.{One, OneAnswer}
 use Rattle.blocks.proofs.block.Reads as block-reads
 use Rattle.blocks.proofs.put_block.Reads as put-block-reads
 use Rattle.blocks.proofs.above_most.Reads as above-most-reads
-use Rattle.blocks.proofs.index.Reads as index-reads
 use Rattle.blocks.proofs.ballot.Reads as ballot-reads
 use Rattle.blocks.proofs.ballot_words.Reads as ballot-words-reads
 
@@ -17,9 +16,6 @@ put-block κs a r₁ r₂ s₁ s₂ p q = p ∙ sym q
 
 pub above-most : (κs : _) (a : _) → OneAnswer (above-most-reads.Post κs a)
 above-most κs a r₁ r₂ s₁ s₂ p q = p ∙ sym q
-
-pub index : (κs : _) (a : _) → OneAnswer (index-reads.Post κs a)
-index κs a r₁ r₂ s₁ s₂ p q = p ∙ sym q
 
 pub ballot : (κs : _) (a : _) → OneAnswer (ballot-reads.Post κs a)
 ballot κs a r₁ r₂ s₁ s₂ p q = p ∙ sym q
