@@ -27,12 +27,13 @@ fn not_accepted(s: SequencePaxos, n: Ballot) -> SequencePaxos
 }
 
 // Whether a message's ballot is the own promise. A lower one gets NotAccepted, a higher one `reconnected`.
+#[tactic(auto, unfolding(ballot::specs::Ballot::compare_of))]
 fn check_valid_ballot(s: &mut SequencePaxos, n: Ballot) -> bool
     requires { Room s.old }
     ensures valid { Passes result (λ taken. if_valid_ballot n taken s.old) s.old s.new }
     ensures room { Room s.new }
 {
-    match s.internal_storage.promise.compare(n) {
+    match s.internal_storage.promise.cmp(&n) {
         Ordering::Equal => return true,
         Ordering::Greater => *s = not_accepted(*s, n),
         Ordering::Less => *s = reconnect::reconnected(*s, n.pid),
@@ -124,12 +125,14 @@ fn handle_sequence_num(s: &mut SequencePaxos, q: SequenceNumber, from: u64) -> b
 }
 
 // The remembered Accepted, where it is of this ballot and an Accepted stands at its position.
-#[tactic(auto, unfolding(crate::specs::Accepting::latest_accepted))]
+#[tactic(auto, unfolding(crate::specs::Accepting::latest_accepted, ballot::specs::Ballot::same, ballot::specs::Ballot::compare_of))]
 fn get_latest_accepted_message(s: SequencePaxos, n: Ballot) -> Option<AcceptedAt>
     ensures { result ≡ latest_accepted n s }
 {
-    s.latest_accepted_meta
-        .filter(|x| s.plan.sight.accepted && x.n.same(n))
+    match s.latest_accepted_meta {
+        Some(x) if s.plan.sight.accepted && x.n == n => Some(x),
+        _ => None,
+    }
 }
 
 fn raise_accepted(s: SequencePaxos, n: Ballot, at: usize, accepted_idx: usize) -> SequencePaxos

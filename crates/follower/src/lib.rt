@@ -13,16 +13,16 @@ use sends::Each;
 use sequence::SequenceNumber;
 
 // What the leader is missing: after its decided index where the own round is higher, after its accepted index in the same round.
-#[tactic(auto, unfolding(crate::specs::Follower::promised_sync))]
+#[tactic(auto, unfolding(crate::specs::Follower::promised_sync, ballot::specs::Ballot::above, ballot::specs::Ballot::same, ballot::specs::Ballot::compare_of))]
 fn promised_sync(s: SequencePaxos, prep: Prepare) -> Option<LogSync>
     requires { Room s }
     ensures value { result ≡ promised_sync prep s }
     ensures result_bound { count_of result ≤ 1024 }
 {
     let own = s.internal_storage;
-    let start = if own.accepted_round.above(prep.n_accepted) {
+    let start = if own.accepted_round > prep.n_accepted {
         prep.decided_idx
-    } else if own.accepted_round.same(prep.n_accepted) && prep.accepted_idx < own.accepted_idx {
+    } else if own.accepted_round == prep.n_accepted && prep.accepted_idx < own.accepted_idx {
         prep.accepted_idx
     } else {
         return None;
@@ -140,14 +140,14 @@ fn prepare_taken(s: SequencePaxos, prep: Prepare, from: u64) -> SequencePaxos
     tell_promise(promise_to(s, prep.n), from, sync)
 }
 
-#[tactic(auto, unfolding(crate::specs::Follower::handle_prepare))]
+#[tactic(auto, unfolding(crate::specs::Follower::handle_prepare, ballot::specs::Ballot::above, ballot::specs::Ballot::same, ballot::specs::Ballot::compare_of))]
 pub fn handle_prepare(s: SequencePaxos, prep: Prepare, from: u64) -> SequencePaxos
     requires { Room s }
     ensures value { result ≡ handle_prepare prep from s }
     ensures room { Room result }
 {
     let own = s.internal_storage.promise;
-    if prep.n.above(own) || prep.n.same(own) && s.state.phase.is_recover() {
+    if prep.n > own || prep.n == own && s.state.phase.is_recover() {
         return prepare_taken(s, prep, from);
     }
     s

@@ -66,13 +66,16 @@ fn become_follower(s: SequencePaxos) -> SequencePaxos
     s.set_state(Role::Follower, s.state.phase)
 }
 
-#[tactic(auto, unfolding(crate::specs::Leader::handle_leader))]
+#[tactic(auto, unfolding(crate::specs::Leader::handle_leader, ballot::specs::Ballot::above, ballot::specs::Ballot::compare_of))]
 pub fn handle_leader(s: SequencePaxos, n: Ballot) -> SequencePaxos
     requires { Room s }
     ensures value { result ≡ handle_leader n s }
     ensures room { Room result }
 {
-    if !n.above(s.leader_state.n_leader) || !n.above(s.internal_storage.promise) {
+    if n <= s.leader_state.n_leader {
+        return s;
+    }
+    if n <= s.internal_storage.promise {
         return s;
     }
     if n.pid == s.config.pid {
@@ -94,14 +97,14 @@ fn prepare_again(s: SequencePaxos, from: u64) -> SequencePaxos
     sends::send_prepare(sends::set_latest_accept_meta(s, from, None), from)
 }
 
-#[tactic(auto, unfolding(crate::specs::Leader::handle_prepare_req))]
+#[tactic(auto, unfolding(crate::specs::Leader::handle_prepare_req, ballot::specs::Ballot::above, ballot::specs::Ballot::compare_of))]
 pub fn handle_preparereq(s: SequencePaxos, n: Ballot, from: u64) -> SequencePaxos
     requires room { Room s }
     requires own_place { own_place from }
     ensures value { result ≡ handle_prepare_req n from s }
     ensures room_2 { Room result }
 {
-    if s.state.role.is_leader() && !n.above(s.leader_state.n_leader) {
+    if s.state.role.is_leader() && n <= s.leader_state.n_leader {
         return prepare_again(s, from);
     }
     s
@@ -261,7 +264,7 @@ fn handle_promise_accept(s: SequencePaxos, m: PromiseMetaData) -> SequencePaxos
 }
 
 // A Promise of ballot n, as its depot's report m, with the sync that it brings.
-#[tactic(auto, unfolding(crate::specs::Leader::handle_promise))]
+#[tactic(auto, unfolding(crate::specs::Leader::handle_promise, ballot::specs::Ballot::same, ballot::specs::Ballot::compare_of))]
 pub fn handle_promise(
     s: SequencePaxos,
     n: Ballot,
@@ -273,7 +276,7 @@ pub fn handle_promise(
     ensures value { result ≡ handle_promise n m sync s }
     ensures room_2 { Room result }
 {
-    if !n.same(s.leader_state.n_leader) {
+    if n != s.leader_state.n_leader {
         return s;
     }
     match s.state.standing() {
@@ -310,27 +313,27 @@ fn accepted_taken(s: SequencePaxos, idx: usize, from: u64) -> SequencePaxos
     decide_if_chosen(set_accepted_idx(s, from, idx), idx)
 }
 
-#[tactic(auto, unfolding(crate::specs::Leader::handle_accepted))]
+#[tactic(auto, unfolding(crate::specs::Leader::handle_accepted, ballot::specs::Ballot::same, ballot::specs::Ballot::compare_of))]
 pub fn handle_accepted(s: SequencePaxos, n: Ballot, accepted_idx: usize, from: u64) -> SequencePaxos
     requires room { Room s }
     requires own_place { own_place from }
     ensures value { result ≡ handle_accepted n accepted_idx from s }
     ensures room_2 { Room result }
 {
-    if n.same(s.leader_state.n_leader) && matches!(s.state.standing(), Standing::LeaderAccept) {
+    if n == s.leader_state.n_leader && matches!(s.state.standing(), Standing::LeaderAccept) {
         return accepted_taken(s, accepted_idx, from);
     }
     s
 }
 
-#[tactic(auto, unfolding(crate::specs::Leader::handle_not_accepted))]
+#[tactic(auto, unfolding(crate::specs::Leader::handle_not_accepted, ballot::specs::Ballot::above, ballot::specs::Ballot::compare_of))]
 pub fn handle_notaccepted(s: SequencePaxos, n: Ballot, from: u64) -> SequencePaxos
     requires room { Room s }
     requires own_place { own_place from }
     ensures value { result ≡ handle_not_accepted n from s }
     ensures room_2 { Room result }
 {
-    if s.state.role.is_leader() && n.above(s.leader_state.n_leader) {
+    if s.state.role.is_leader() && n > s.leader_state.n_leader {
         return s.set_leader_state(s.leader_state.lost_promise(from));
     }
     s
