@@ -2,7 +2,6 @@
 #![tactic(auto)]
 
 ghost use Rattle.std.specs.Prelude.{◌≡◌};
-ghost use Rattle.paxos_box.specs.Room.{Room};
 ghost use Rattle.accepting.specs.Accepting.{Passes, if_valid_ballot, if_expected, not_accepted, send_accepted, acceptsync_taken, handle_acceptsync, counter_at_top, latest_accepted, raise_accepted, reply_accepted, update_decided, acceptdecide_fit, handle_acceptdecide, decide_taken, handle_decide};
 
 use ballot::Ballot;
@@ -10,30 +9,26 @@ use base::{LARGEST, MAX_LOG};
 use leader_state::LogSync;
 use messages::{AcceptDecide, AcceptSync, Accepted, Decide, NotAccepted, PaxosMsg};
 use paxos_box::{
-    AcceptedAt, LogOp, Phase, Raise, Role, Send, Sent, SequencePaxos, Source, Standing,
+    AcceptedAt, Bounded, LogOp, Phase, Raise, Role, Send, Sent, SequencePaxos, Source, Standing,
 };
 use sequence::{MessageStatus, SequenceNumber};
 use std::cmp::Ordering;
 
-fn not_accepted(s: SequencePaxos, n: Ballot) -> SequencePaxos
-    requires { Room s }
-    ensures value { result ≡ not_accepted n s }
-    ensures room { Room result }
+fn not_accepted(s: Bounded, n: Ballot) -> Bounded
+    ensures { result ≡ not_accepted n s }
 {
     let m = NotAccepted {
-        n: s.internal_storage.promise,
+        n: s.inner.internal_storage.promise,
     };
     s.send_new(n.pid, PaxosMsg::NotAccepted(m), Source::Nothing, 0)
 }
 
 // Whether a message's ballot is the own promise. A lower one gets NotAccepted, a higher one `reconnected`.
 #[tactic(auto, unfolding(ballot::specs::Ballot::compare_of))]
-fn check_valid_ballot(s: &mut SequencePaxos, n: Ballot) -> bool
-    requires { Room s.old }
-    ensures valid { Passes result (λ taken. if_valid_ballot n taken s.old) s.old s.new }
-    ensures room { Room s.new }
+fn check_valid_ballot(s: &mut Bounded, n: Ballot) -> bool
+    ensures { Passes result (λ taken. if_valid_ballot n taken s.old) s.old s.new }
 {
-    match s.internal_storage.promise.cmp(&n) {
+    match s.inner.internal_storage.promise.cmp(&n) {
         Ordering::Equal => return true,
         Ordering::Greater => *s = not_accepted(*s, n),
         Ordering::Less => *s = reconnect::reconnected(*s, n.pid),
@@ -42,10 +37,8 @@ fn check_valid_ballot(s: &mut SequencePaxos, n: Ballot) -> bool
 }
 
 #[tactic(auto, unfolding(crate::specs::Accepting::send_accepted))]
-fn push_accepted(s: SequencePaxos, n: Ballot, accepted_idx: usize, to: u64) -> SequencePaxos
-    requires { Room s }
-    ensures value { result ≡ send_accepted n accepted_idx to s }
-    ensures room { Room result }
+fn push_accepted(s: Bounded, n: Ballot, accepted_idx: usize, to: u64) -> Bounded
+    ensures { result ≡ send_accepted n accepted_idx to s }
 {
     let at = s.next_place();
     let m = Accepted { n, accepted_idx };
@@ -54,16 +47,14 @@ fn push_accepted(s: SequencePaxos, n: Ballot, accepted_idx: usize, to: u64) -> S
 }
 
 #[tactic(auto, unfolding(crate::specs::Accepting::acceptsync_taken, crate::specs::Accepting::acceptsync_put, crate::specs::Accepting::following, log_plan::specs::Log::sync_unfit, log_plan::specs::Log::ends_past))]
-fn acceptsync_taken(s: SequencePaxos, m: AcceptSync, count: usize, from: u64) -> SequencePaxos
-    requires { Room s }
-    ensures value { result ≡ acceptsync_taken m count from s }
-    ensures room { Room result }
+fn acceptsync_taken(s: Bounded, m: AcceptSync, count: usize, from: u64) -> Bounded
+    ensures { result ≡ acceptsync_taken m count from s }
 {
     let x = LogSync {
         sync_idx: m.sync_idx,
         len: count,
     };
-    if log_plan::sync_unfit(s, x, s.plan.sight.brought_change, m.decided_idx) {
+    if log_plan::sync_unfit(s.inner, x, s.inner.plan.sight.brought_change, m.decided_idx) {
         return s.refuse_unfit();
     }
     let end = m.sync_idx + count;
@@ -82,17 +73,12 @@ fn acceptsync_taken(s: SequencePaxos, m: AcceptSync, count: usize, from: u64) ->
 
 // An AcceptSync with `count` entries of suffix given.
 #[tactic(auto, unfolding(crate::specs::Accepting::handle_acceptsync))]
-pub fn handle_acceptsync(
-    mut s: SequencePaxos,
-    m: AcceptSync,
-    count: usize,
-    from: u64,
-) -> SequencePaxos
-    requires { Room s }
-    ensures value { result ≡ handle_acceptsync m count from s }
-    ensures room { Room result }
+pub fn handle_acceptsync(mut s: Bounded, m: AcceptSync, count: usize, from: u64) -> Bounded
+    ensures { result ≡ handle_acceptsync m count from s }
 {
-    if check_valid_ballot(&mut s, m.n) && matches!(s.state.standing(), Standing::FollowerPrepare) {
+    if check_valid_ballot(&mut s, m.n)
+        && matches!(s.inner.state.standing(), Standing::FollowerPrepare)
+    {
         return acceptsync_taken(s, m, count, from);
     }
     s
@@ -107,16 +93,14 @@ fn counter_at_top(s: SequencePaxos, q: SequenceNumber) -> bool
 }
 
 // Whether a message's number is the next one. A dropped one gets `reconnected`, an outdated one nothing, and a counter at the top refuses.
-fn handle_sequence_num(s: &mut SequencePaxos, q: SequenceNumber, from: u64) -> bool
-    requires { Room s.old }
-    ensures expected { Passes result (λ taken. if_expected q from taken s.old) s.old s.new }
-    ensures room { Room s.new }
+fn handle_sequence_num(s: &mut Bounded, q: SequenceNumber, from: u64) -> bool
+    ensures { Passes result (λ taken. if_expected q from taken s.old) s.old s.new }
 {
-    if counter_at_top(*s, q) {
+    if counter_at_top(s.inner, q) {
         *s = s.refuse_top();
         return false;
     }
-    match s.current_seq_num.check_msg_status(q) {
+    match s.inner.current_seq_num.check_msg_status(q) {
         MessageStatus::Expected => return true,
         MessageStatus::DroppedPreceding => *s = reconnect::reconnected(*s, from),
         MessageStatus::Outdated => {}
@@ -135,10 +119,8 @@ fn get_latest_accepted_message(s: SequencePaxos, n: Ballot) -> Option<AcceptedAt
     }
 }
 
-fn raise_accepted(s: SequencePaxos, n: Ballot, at: usize, accepted_idx: usize) -> SequencePaxos
-    requires { Room s }
-    ensures value { result ≡ raise_accepted n at accepted_idx s }
-    ensures room { Room result }
+fn raise_accepted(s: Bounded, n: Ballot, at: usize, accepted_idx: usize) -> Bounded
+    ensures { result ≡ raise_accepted n at accepted_idx s }
 {
     s.push_send(Send {
         to: n.pid,
@@ -149,36 +131,30 @@ fn raise_accepted(s: SequencePaxos, n: Ballot, at: usize, accepted_idx: usize) -
 }
 
 #[tactic(auto, unfolding(crate::specs::Accepting::reply_accepted))]
-fn reply_accepted(s: SequencePaxos, n: Ballot, accepted_idx: usize) -> SequencePaxos
-    requires { Room s }
-    ensures value { result ≡ reply_accepted n accepted_idx s }
-    ensures room { Room result }
+fn reply_accepted(s: Bounded, n: Ballot, accepted_idx: usize) -> Bounded
+    ensures { result ≡ reply_accepted n accepted_idx s }
 {
-    match get_latest_accepted_message(s, n) {
+    match get_latest_accepted_message(s.inner, n) {
         Some(x) => raise_accepted(s, n, x.at, accepted_idx),
         None => push_accepted(s, n, accepted_idx, n.pid),
     }
 }
 
 #[tactic(auto, unfolding(crate::specs::Accepting::update_decided))]
-fn update_decided_idx(s: SequencePaxos, idx: usize) -> SequencePaxos
-    requires { Room s }
-    ensures value { result ≡ update_decided idx s }
-    ensures room { Room result }
+fn update_decided_idx(s: Bounded, idx: usize) -> Bounded
+    ensures { result ≡ update_decided idx s }
 {
-    if s.internal_storage.decided_idx < idx {
-        return s.set_decided_idx(idx.min(s.internal_storage.accepted_idx));
+    if s.inner.internal_storage.decided_idx < idx {
+        return s.set_decided_idx(idx.min(s.inner.internal_storage.accepted_idx));
     }
     s
 }
 
 #[tactic(auto, unfolding(crate::specs::Accepting::acceptdecide_fit, crate::specs::Accepting::acceptdecide_taken))]
-fn acceptdecide_fit(s: SequencePaxos, m: AcceptDecide, count: usize) -> SequencePaxos
-    requires { Room s }
-    ensures value { result ≡ acceptdecide_fit m.n m.seq_num m.decided_idx count s }
-    ensures room { Room result }
+fn acceptdecide_fit(s: Bounded, m: AcceptDecide, count: usize) -> Bounded
+    ensures { result ≡ acceptdecide_fit m.n m.seq_num m.decided_idx count s }
 {
-    let len = s.internal_storage.accepted_idx;
+    let len = s.inner.internal_storage.accepted_idx;
     if count == 0 || MAX_LOG.saturating_sub(len) < count {
         return s.refuse_unfit();
     }
@@ -188,13 +164,11 @@ fn acceptdecide_fit(s: SequencePaxos, m: AcceptDecide, count: usize) -> Sequence
 
 // An AcceptDecide with `count` entries given.
 #[tactic(auto, unfolding(crate::specs::Accepting::handle_acceptdecide))]
-pub fn handle_acceptdecide(mut s: SequencePaxos, m: AcceptDecide, count: usize) -> SequencePaxos
-    requires { Room s }
-    ensures value { result ≡ handle_acceptdecide m.n m.seq_num m.decided_idx count s }
-    ensures room { Room result }
+pub fn handle_acceptdecide(mut s: Bounded, m: AcceptDecide, count: usize) -> Bounded
+    ensures { result ≡ handle_acceptdecide m.n m.seq_num m.decided_idx count s }
 {
     if check_valid_ballot(&mut s, m.n)
-        && matches!(s.state.standing(), Standing::FollowerAccept)
+        && matches!(s.inner.state.standing(), Standing::FollowerAccept)
         && handle_sequence_num(&mut s, m.seq_num, m.n.pid)
     {
         return acceptdecide_fit(s, m, count);
@@ -203,12 +177,10 @@ pub fn handle_acceptdecide(mut s: SequencePaxos, m: AcceptDecide, count: usize) 
 }
 
 #[tactic(auto, unfolding(crate::specs::Accepting::decide_taken))]
-fn decide_taken(s: SequencePaxos, m: Decide) -> SequencePaxos
-    requires { Room s }
-    ensures value { result ≡ decide_taken m.n m.decided_idx s }
-    ensures room { Room result }
+fn decide_taken(s: Bounded, m: Decide) -> Bounded
+    ensures { result ≡ decide_taken m.n m.decided_idx s }
 {
-    let len = s.internal_storage.accepted_idx;
+    let len = s.inner.internal_storage.accepted_idx;
     let s = update_decided_idx(s, m.decided_idx);
     if len < m.decided_idx {
         return reply_accepted(s, m.n, len);
@@ -217,13 +189,11 @@ fn decide_taken(s: SequencePaxos, m: Decide) -> SequencePaxos
 }
 
 #[tactic(auto, unfolding(crate::specs::Accepting::handle_decide))]
-pub fn handle_decide(mut s: SequencePaxos, m: Decide) -> SequencePaxos
-    requires { Room s }
-    ensures value { result ≡ handle_decide m.n m.seq_num m.decided_idx s }
-    ensures room { Room result }
+pub fn handle_decide(mut s: Bounded, m: Decide) -> Bounded
+    ensures { result ≡ handle_decide m.n m.seq_num m.decided_idx s }
 {
     if check_valid_ballot(&mut s, m.n)
-        && s.state.phase.is_accept()
+        && s.inner.state.phase.is_accept()
         && handle_sequence_num(&mut s, m.seq_num, m.n.pid)
     {
         return decide_taken(s.set_current_seq_num(m.seq_num), m);

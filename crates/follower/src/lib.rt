@@ -2,24 +2,22 @@
 #![tactic(auto)]
 
 ghost use Rattle.std.specs.Prelude.{◌≡◌, ◌≤◌};
-ghost use Rattle.paxos_box.specs.Room.{Room};
 ghost use Rattle.follower.specs.Follower.{promised_sync, start_of, count_of, log_source, cached_source, build_fits, promise_of, send_promise, cache_promise, tell_promise, promise_to, prepare_taken, handle_prepare, prepare_reqs, few_cached, resend_messages_follower};
 
 use ballot::Ballot;
 use leader_state::LogSync;
 use messages::{PaxosMsg, Prepare, Promise};
-use paxos_box::{CachedPromise, Phase, Role, SequencePaxos, Source};
+use paxos_box::{Bounded, CachedPromise, Phase, Role, SequencePaxos, Source};
 use sends::Each;
 use sequence::SequenceNumber;
 
 // What the leader is missing: after its decided index where the own round is higher, after its accepted index in the same round.
 #[tactic(auto, unfolding(crate::specs::Follower::promised_sync, ballot::specs::Ballot::above, ballot::specs::Ballot::same, ballot::specs::Ballot::compare_of))]
-fn promised_sync(s: SequencePaxos, prep: Prepare) -> Option<LogSync>
-    requires { Room s }
+fn promised_sync(s: Bounded, prep: Prepare) -> Option<LogSync>
     ensures value { result ≡ promised_sync prep s }
     ensures result_bound { count_of result ≤ 1024 }
 {
-    let own = s.internal_storage;
+    let own = s.inner.internal_storage;
     let start = if own.accepted_round > prep.n_accepted {
         prep.decided_idx
     } else if own.accepted_round == prep.n_accepted && prep.accepted_idx < own.accepted_idx {
@@ -57,10 +55,8 @@ fn cached_source(sync: Option<LogSync>) -> Source
     sync.map_or(Source::Nothing, |_| Source::Cached)
 }
 
-fn build_fits(s: SequencePaxos, sync: Option<LogSync>) -> SequencePaxos
-    requires { Room s }
-    ensures value { result ≡ build_fits sync s }
-    ensures room { Room result }
+fn build_fits(s: Bounded, sync: Option<LogSync>) -> Bounded
+    ensures { result ≡ build_fits sync s }
 {
     match sync {
         Some(x) => sends::check_log_sync(s, x.sync_idx),
@@ -81,11 +77,9 @@ fn promise_of(s: SequencePaxos, sync: Option<LogSync>) -> CachedPromise
     }
 }
 
-fn send_promise(s: SequencePaxos, to: u64, p: CachedPromise, source: Source) -> SequencePaxos
-    requires room { Room s }
-    requires sync_bound { count_of p.sync ≤ 1024 }
-    ensures value { result ≡ send_promise to p source s }
-    ensures room_2 { Room result }
+fn send_promise(s: Bounded, to: u64, p: CachedPromise, source: Source) -> Bounded
+    requires { count_of p.sync ≤ 1024 }
+    ensures { result ≡ send_promise to p source s }
 {
     let promise = Promise {
         n: p.n,
@@ -98,32 +92,26 @@ fn send_promise(s: SequencePaxos, to: u64, p: CachedPromise, source: Source) -> 
 }
 
 #[tactic(auto, unfolding(crate::specs::Follower::cache_promise))]
-fn cache_promise(s: SequencePaxos, sync: Option<LogSync>) -> SequencePaxos
-    requires { Room s }
-    ensures value { result ≡ cache_promise sync s }
-    ensures room { Room result }
+fn cache_promise(s: Bounded, sync: Option<LogSync>) -> Bounded
+    ensures { result ≡ cache_promise sync s }
 {
-    s.set_cached(Some(promise_of(s, sync)))
-        .set_writes(s.plan.writes.with_cached(sync))
+    s.set_cached(Some(promise_of(s.inner, sync)))
+        .set_writes(s.inner.plan.writes.with_cached(sync))
 }
 
 #[tactic(auto, unfolding(crate::specs::Follower::tell_promise))]
-fn tell_promise(s: SequencePaxos, from: u64, sync: Option<LogSync>) -> SequencePaxos
-    requires room { Room s }
-    requires sync_bound { count_of sync ≤ 1024 }
-    ensures value { result ≡ tell_promise from sync s }
-    ensures room_2 { Room result }
+fn tell_promise(s: Bounded, from: u64, sync: Option<LogSync>) -> Bounded
+    requires { count_of sync ≤ 1024 }
+    ensures { result ≡ tell_promise from sync s }
 {
-    let p = promise_of(s, sync);
+    let p = promise_of(s.inner, sync);
     let s = cache_promise(build_fits(s, sync), sync);
     send_promise(s, from, p, log_source(sync))
 }
 
 #[tactic(auto, unfolding(crate::specs::Follower::promise_to))]
-fn promise_to(s: SequencePaxos, n: Ballot) -> SequencePaxos
-    requires { Room s }
-    ensures value { result ≡ promise_to n s }
-    ensures room { Room result }
+fn promise_to(s: Bounded, n: Ballot) -> Bounded
+    ensures { result ≡ promise_to n s }
 {
     s.set_promise(n)
         .set_state(Role::Follower, Phase::Prepare)
@@ -131,46 +119,38 @@ fn promise_to(s: SequencePaxos, n: Ballot) -> SequencePaxos
 }
 
 #[tactic(auto, unfolding(crate::specs::Follower::prepare_taken))]
-fn prepare_taken(s: SequencePaxos, prep: Prepare, from: u64) -> SequencePaxos
-    requires { Room s }
-    ensures value { result ≡ prepare_taken prep from s }
-    ensures room { Room result }
+fn prepare_taken(s: Bounded, prep: Prepare, from: u64) -> Bounded
+    ensures { result ≡ prepare_taken prep from s }
 {
     let sync = promised_sync(s, prep);
     tell_promise(promise_to(s, prep.n), from, sync)
 }
 
 #[tactic(auto, unfolding(crate::specs::Follower::handle_prepare, ballot::specs::Ballot::above, ballot::specs::Ballot::same, ballot::specs::Ballot::compare_of))]
-pub fn handle_prepare(s: SequencePaxos, prep: Prepare, from: u64) -> SequencePaxos
-    requires { Room s }
-    ensures value { result ≡ handle_prepare prep from s }
-    ensures room { Room result }
+pub fn handle_prepare(s: Bounded, prep: Prepare, from: u64) -> Bounded
+    ensures { result ≡ handle_prepare prep from s }
 {
-    let own = s.internal_storage.promise;
-    if prep.n > own || prep.n == own && s.state.phase.is_recover() {
+    let own = s.inner.internal_storage.promise;
+    if prep.n > own || prep.n == own && s.inner.state.phase.is_recover() {
         return prepare_taken(s, prep, from);
     }
     s
 }
 
-fn send_preparereq_to_all_peers(s: SequencePaxos) -> SequencePaxos
-    requires { Room s }
-    ensures value { result ≡ prepare_reqs s }
-    ensures room { Room result }
+fn send_preparereq_to_all_peers(s: Bounded) -> Bounded
+    ensures { result ≡ prepare_reqs s }
 {
-    sends::send_each(s, Each::PrepareReq, sends::peers(s.config))
+    sends::send_each(s, Each::PrepareReq, sends::peers(s.inner.config))
 }
 
 // The cached promise is resent where its sync has few entries: an unbroken record's has 512 at most.
 #[tactic(auto, unfolding(crate::specs::Follower::resend_messages_follower))]
-pub fn resend_messages_follower(s: SequencePaxos) -> SequencePaxos
-    requires room { Room s }
-    requires few_cached { few_cached s.cached_promise_message }
-    ensures value { result ≡ resend_messages_follower s }
-    ensures room_2 { Room result }
+pub fn resend_messages_follower(s: Bounded) -> Bounded
+    requires { few_cached s.cached_promise_message }
+    ensures { result ≡ resend_messages_follower s }
 {
-    match s.state.phase {
-        Phase::Prepare => match s.cached_promise_message {
+    match s.inner.state.phase {
+        Phase::Prepare => match s.inner.cached_promise_message {
             Some(p) => send_promise(s, p.n.pid, p, cached_source(p.sync)),
             None => send_preparereq_to_all_peers(reconnect::to_recover(s)),
         },

@@ -2,14 +2,13 @@
 #![tactic(auto)]
 
 ghost use Rattle.std.specs.Prelude.{◌≡◌, ◌+◌, ◌≤◌};
-ghost use Rattle.paxos_box.specs.Room.{Room};
 ghost use Rattle.log_plan.specs.Log.{ends_past, sync_unfit, sync_log, append_given, kept_of, append_buffered, buffer_given, has_leader, push_forward, forward_proposals, forward_buffered};
 
 use ballot::Ballot;
 use base::MAX_LOG;
 use leader_state::LogSync;
 use messages::PaxosMsg;
-use paxos_box::{InternalStorage, LogOp, SequencePaxos, Source};
+use paxos_box::{Bounded, InternalStorage, LogOp, SequencePaxos, Source};
 
 // A sync that ends past the log's limit.
 #[tactic(auto, unfolding(crate::specs::Log::ends_past))]
@@ -39,32 +38,28 @@ pub fn sync_unfit(s: SequencePaxos, x: LogSync, change: usize, brings: usize) ->
 // The accepted round becomes the given ballot, the decided index rises to the given one, and the log ends at `end`: with a sync, which
 // `op` puts on, or without.
 #[tactic(auto, unfolding(crate::specs::Log::sync_log))]
-pub fn sync_log(s: SequencePaxos, n: Ballot, decided: usize, end: usize, op: LogOp) -> SequencePaxos
-    requires room { Room s }
-    requires end_bound { end ≤ 1024 }
-    ensures value { result ≡ sync_log n decided end op s }
-    ensures room_2 { Room result }
+pub fn sync_log(s: Bounded, n: Ballot, decided: usize, end: usize, op: LogOp) -> Bounded
+    requires { end ≤ 1024 }
+    ensures { result ≡ sync_log n decided end op s }
 {
-    let found = s.internal_storage;
+    let found = s.inner.internal_storage;
     s.set_storage(InternalStorage {
         accepted_round: n,
         decided_idx: found.decided_idx.max(decided),
         accepted_idx: end,
         ..found
     })
-    .set_writes(s.plan.writes.with_log(op))
+    .set_writes(s.inner.plan.writes.with_log(op))
 }
 
 // The given entries join the log's end.
 #[tactic(auto, unfolding(crate::specs::Log::append_given))]
-pub fn append_entries(s: SequencePaxos, count: usize) -> SequencePaxos
-    requires room { Room s }
-    requires count_bound { s.internal_storage.accepted_idx + count ≤ 1024 }
-    ensures value { result ≡ append_given count s }
-    ensures room_2 { Room result }
+pub fn append_entries(s: Bounded, count: usize) -> Bounded
+    requires { s.internal_storage.accepted_idx + count ≤ 1024 }
+    ensures { result ≡ append_given count s }
 {
-    s.set_length(s.internal_storage.accepted_idx + count)
-        .set_writes(s.plan.writes.with_log(LogOp::Append(count)))
+    s.set_length(s.inner.internal_storage.accepted_idx + count)
+        .set_writes(s.inner.plan.writes.with_log(LogOp::Append(count)))
 }
 
 #[tactic(auto, unfolding(crate::specs::Log::kept_of))]
@@ -78,29 +73,25 @@ fn kept(waiting: usize, len: usize) -> usize
 
 // Buffered proposals join the log's end; those past its limit are dropped from the end.
 #[tactic(auto, unfolding(crate::specs::Log::append_buffered))]
-pub fn append_buffered(s: SequencePaxos) -> SequencePaxos
-    requires { Room s }
-    ensures value { result ≡ append_buffered s }
-    ensures room { Room result }
+pub fn append_buffered(s: Bounded) -> Bounded
+    ensures { result ≡ append_buffered s }
 {
-    let len = s.internal_storage.accepted_idx;
-    let waiting = s.buffered_proposals;
+    let len = s.inner.internal_storage.accepted_idx;
+    let waiting = s.inner.buffered_proposals;
     let n = kept(waiting, len);
     s.set_length(len + n)
         .set_buffered(0)
-        .set_writes(s.plan.writes.with_buffered(n, waiting - n))
+        .set_writes(s.inner.plan.writes.with_buffered(n, waiting - n))
 }
 
 // The given entries join the buffered proposals.
 #[tactic(auto, unfolding(crate::specs::Log::buffer_given))]
-pub fn buffer_proposals(s: SequencePaxos, count: usize) -> SequencePaxos
-    requires room { Room s }
-    requires count_bound { s.buffered_proposals + count ≤ 64 }
-    ensures value { result ≡ buffer_given count s }
-    ensures room_2 { Room result }
+pub fn buffer_proposals(s: Bounded, count: usize) -> Bounded
+    requires { s.buffered_proposals + count ≤ 64 }
+    ensures { result ≡ buffer_given count s }
 {
-    s.set_buffered(s.buffered_proposals + count)
-        .set_writes(s.plan.writes.with_buffer(Some(count)))
+    s.set_buffered(s.inner.buffered_proposals + count)
+        .set_writes(s.inner.plan.writes.with_buffer(Some(count)))
 }
 
 // The promise names another depot.
@@ -112,26 +103,22 @@ fn has_leader(s: SequencePaxos) -> bool
     pid != 0 && pid != s.config.pid
 }
 
-fn push_forward(s: SequencePaxos, source: Source, count: usize) -> SequencePaxos
-    requires room { Room s }
-    requires count_bound { count ≤ 1024 }
-    ensures value { result ≡ push_forward source count s }
-    ensures room_2 { Room result }
+fn push_forward(s: Bounded, source: Source, count: usize) -> Bounded
+    requires { count ≤ 1024 }
+    ensures { result ≡ push_forward source count s }
 {
-    let to = s.internal_storage.promise.pid;
+    let to = s.inner.internal_storage.promise.pid;
     s.send_new(to, PaxosMsg::ProposalForward, source, count)
 }
 
 // The given entries go to the promise's pid; if that is 0 or oneself, they are buffered.
 #[tactic(auto, unfolding(crate::specs::Log::forward_proposals))]
-pub fn forward_proposals(s: SequencePaxos, count: usize) -> SequencePaxos
-    requires room { Room s }
+pub fn forward_proposals(s: Bounded, count: usize) -> Bounded
     requires count_bound { count ≤ 1024 }
     requires count_bound_2 { s.buffered_proposals + count ≤ 64 }
-    ensures value { result ≡ forward_proposals count s }
-    ensures room_2 { Room result }
+    ensures { result ≡ forward_proposals count s }
 {
-    if has_leader(s) {
+    if has_leader(s.inner) {
         push_forward(s, Source::Given, count)
     } else {
         buffer_proposals(s, count)
@@ -140,13 +127,11 @@ pub fn forward_proposals(s: SequencePaxos, count: usize) -> SequencePaxos
 
 // The buffered proposals, if any, go to the promise's pid; if that is 0 or oneself, they stay.
 #[tactic(auto, unfolding(crate::specs::Log::forward_buffered))]
-pub fn forward_buffered_proposals(s: SequencePaxos) -> SequencePaxos
-    requires { Room s }
-    ensures value { result ≡ forward_buffered s }
-    ensures room { Room result }
+pub fn forward_buffered_proposals(s: Bounded) -> Bounded
+    ensures { result ≡ forward_buffered s }
 {
-    let waiting = s.buffered_proposals;
-    if waiting == 0 || !has_leader(s) {
+    let waiting = s.inner.buffered_proposals;
+    if waiting == 0 || !has_leader(s.inner) {
         return s;
     }
     push_forward(s.set_buffered(0), Source::Buffered, waiting)

@@ -5,6 +5,7 @@
 ghost use Rattle.std.specs.Prelude.{◌≡◌, ◌+◌, ◌*◌, ◌≤◌, ◌<◌};
 ghost use Rattle.paxos_box.specs.declared.Sent.TheVariants.{New};
 ghost use Rattle.paxos_box.specs.Room.{Room};
+ghost use Rattle.paxos_box.specs.declared.SequencePaxos.{SequencePaxos};
 ghost use Rattle.paxos_box.specs.Box.{is_new, planned, push_of, next_place, unfit, at_top, with_state, with_leader, with_storage, with_writes, set_promised, set_decided, set_length, set_seq, set_cached, set_meta, set_buffered, log_op, cached_op, best_op, buffer_op, kept_buffered, is_recover, is_accept_phase, is_leader, standing_of};
 
 use ballot::Ballot;
@@ -13,6 +14,7 @@ use leader_state::{LeaderState, LogSync};
 use messages::PaxosMsg;
 use quorum::Configuration;
 use sequence::SequenceNumber;
+use std::marker::Model;
 
 #[derive(Clone, Copy, Debug, PartialEq, Eq)]
 pub enum Role {
@@ -249,24 +251,59 @@ impl Plan {
 }
 
 impl SequencePaxos {
+    pub fn set_storage(mut self, t: InternalStorage) -> Self
+        ensures { result ≡ with_storage t self }
+    {
+        self.internal_storage = t;
+        self
+    }
+
+    pub fn set_length(mut self, len: usize) -> Self
+        ensures { result ≡ set_length len self }
+    {
+        self.internal_storage.accepted_idx = len;
+        self
+    }
+
+    pub fn set_buffered(mut self, n: usize) -> Self
+        ensures { result ≡ set_buffered n self }
+    {
+        self.buffered_proposals = n;
+        self
+    }
+}
+
+// A deciding box whose sums are known to be small (`Room`): what every step of deciding takes and hands back. It shows the box in it.
+#[derive(Clone, Copy)]
+pub struct Bounded {
+    pub inner: SequencePaxos,
+}
+
+impl Model for Bounded {
+    ghost Value = { SequencePaxos };
+
+    ghost view = { λ b. b.inner };
+
+    ghost invariant = { λ b. Room b.inner };
+
+    ghost inverse = { λ s. record { inner = s } };
+}
+
+impl Bounded {
     // A plan has room for eight things and a step plans six at most, so none is ever left out.
     #[tactic(auto, unfolding(crate::specs::Box::push_of))]
     pub fn push_send(mut self, m: Send) -> Self
-        requires room { Room self }
-        requires count_bound { m.count ≤ 1024 }
-        ensures value { result ≡ push_of m self }
-        ensures room_2 { Room result }
+        requires { m.count ≤ 1024 }
+        ensures { result ≡ push_of m self }
     {
-        self.plan = self.plan.with_send(m);
+        self.inner.plan = self.inner.plan.with_send(m);
         self
     }
 
     // A new message, with `count` entries from `source`.
     pub fn send_new(self, to: u64, msg: PaxosMsg, source: Source, count: usize) -> Self
-        requires room { Room self }
-        requires count_bound { count ≤ 1024 }
-        ensures value { result ≡ push_of (record { to = to; what = New msg; source = source; count = count }) self }
-        ensures room_2 { Room result }
+        requires { count ≤ 1024 }
+        ensures { result ≡ push_of (record { to = to; what = New msg; source = source; count = count }) self }
     {
         self.push_send(Send {
             to,
@@ -278,17 +315,16 @@ impl SequencePaxos {
 
     // The position that the next new message will have in the queue.
     pub fn next_place(self) -> usize
-        requires { Room self }
         ensures { result ≡ next_place self }
     {
-        self.outgoing.len + self.plan.sends.messages
+        self.inner.outgoing.len + self.inner.plan.sends.messages
     }
 
     // The step is refused with 4.
     pub fn refuse_unfit(mut self) -> Self
         ensures { result ≡ unfit self }
     {
-        self.plan.unfit = true;
+        self.inner.plan.unfit = true;
         self
     }
 
@@ -296,85 +332,91 @@ impl SequencePaxos {
     pub fn refuse_top(mut self) -> Self
         ensures { result ≡ at_top self }
     {
-        self.plan.top = true;
+        self.inner.plan.top = true;
         self
     }
 
     pub fn set_state(mut self, role: Role, phase: Phase) -> Self
         ensures { result ≡ with_state (record { role = role; phase = phase }) self }
     {
-        self.state = State { role, phase };
+        self.inner.state = State { role, phase };
         self
     }
 
     pub fn set_leader_state(mut self, l: LeaderState) -> Self
         ensures { result ≡ with_leader l self }
     {
-        self.leader_state = l;
-        self
-    }
-
-    pub fn set_storage(mut self, t: InternalStorage) -> Self
-        ensures { result ≡ with_storage t self }
-    {
-        self.internal_storage = t;
+        self.inner.leader_state = l;
         self
     }
 
     pub fn set_promise(mut self, n: Ballot) -> Self
         ensures { result ≡ set_promised n self }
     {
-        self.internal_storage.promise = n;
+        self.inner.internal_storage.promise = n;
         self
     }
 
     pub fn set_decided_idx(mut self, idx: usize) -> Self
         ensures { result ≡ set_decided idx self }
     {
-        self.internal_storage.decided_idx = idx;
-        self
-    }
-
-    pub fn set_length(mut self, len: usize) -> Self
-        ensures { result ≡ set_length len self }
-    {
-        self.internal_storage.accepted_idx = len;
+        self.inner.internal_storage.decided_idx = idx;
         self
     }
 
     pub fn set_current_seq_num(mut self, q: SequenceNumber) -> Self
         ensures { result ≡ set_seq q self }
     {
-        self.current_seq_num = q;
+        self.inner.current_seq_num = q;
         self
     }
 
     pub fn set_cached(mut self, message: Option<CachedPromise>) -> Self
         ensures { result ≡ set_cached message self }
     {
-        self.cached_promise_message = message;
+        self.inner.cached_promise_message = message;
         self
     }
 
     pub fn set_latest_accepted(mut self, meta: Option<AcceptedAt>) -> Self
         ensures { result ≡ set_meta meta self }
     {
-        self.latest_accepted_meta = meta;
-        self
-    }
-
-    pub fn set_buffered(mut self, n: usize) -> Self
-        ensures { result ≡ set_buffered n self }
-    {
-        self.buffered_proposals = n;
+        self.inner.latest_accepted_meta = meta;
         self
     }
 
     pub fn set_writes(mut self, w: Writes) -> Self
         ensures { result ≡ with_writes w self }
     {
-        self.plan.writes = w;
+        self.inner.plan.writes = w;
         self
+    }
+
+    pub fn set_storage(self, t: InternalStorage) -> Self
+        requires { t.accepted_idx ≤ 1024 }
+        ensures { result ≡ with_storage t self }
+    {
+        Bounded {
+            inner: self.inner.set_storage(t),
+        }
+    }
+
+    pub fn set_length(self, len: usize) -> Self
+        requires { len ≤ 1024 }
+        ensures { result ≡ set_length len self }
+    {
+        Bounded {
+            inner: self.inner.set_length(len),
+        }
+    }
+
+    pub fn set_buffered(self, n: usize) -> Self
+        requires { n ≤ 64 }
+        ensures { result ≡ set_buffered n self }
+    {
+        Bounded {
+            inner: self.inner.set_buffered(n),
+        }
     }
 }
 

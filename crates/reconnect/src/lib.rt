@@ -2,26 +2,21 @@
 #![tactic(auto)]
 
 ghost use Rattle.std.specs.Prelude.{◌≡◌};
-ghost use Rattle.paxos_box.specs.Room.{Room};
 ghost use Rattle.reconnect.specs.Reconnect.{left_leader, reconnected_of, recovering};
 
-use paxos_box::{Phase, Role, SequencePaxos};
+use paxos_box::{Bounded, Phase, Role};
 
-pub fn to_recover(s: SequencePaxos) -> SequencePaxos
-    requires { Room s }
-    ensures value { result ≡ recovering s }
-    ensures room { Room result }
+pub fn to_recover(s: Bounded) -> Bounded
+    ensures { result ≡ recovering s }
 {
     s.set_state(Role::Follower, Phase::Recover)
 }
 
 #[tactic(auto, unfolding(crate::specs::Reconnect::left_leader))]
-fn left_leader(s: SequencePaxos, pid: u64) -> SequencePaxos
-    requires { Room s }
-    ensures value { result ≡ left_leader pid s }
-    ensures room { Room result }
+fn left_leader(s: Bounded, pid: u64) -> Bounded
+    ensures { result ≡ left_leader pid s }
 {
-    if pid == s.internal_storage.promise.pid {
+    if pid == s.inner.internal_storage.promise.pid {
         to_recover(s)
     } else {
         s
@@ -29,12 +24,10 @@ fn left_leader(s: SequencePaxos, pid: u64) -> SequencePaxos
 }
 
 #[tactic(auto, unfolding(crate::specs::Reconnect::reconnected_of))]
-pub fn reconnected(s: SequencePaxos, pid: u64) -> SequencePaxos
-    requires { Room s }
-    ensures value { result ≡ reconnected_of pid s }
-    ensures room { Room result }
+pub fn reconnected(s: Bounded, pid: u64) -> Bounded
+    ensures { result ≡ reconnected_of pid s }
 {
-    if pid == s.config.pid {
+    if pid == s.inner.config.pid {
         return s;
     }
     sends::send_preparereq(left_leader(s, pid), pid)

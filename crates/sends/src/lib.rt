@@ -4,13 +4,12 @@
 ghost use Rattle.std.specs.Prelude.{◌≡◌, ◌+◌, ◌≤◌, ◌<◌};
 ghost use Rattle.base.specs.Limits.{max_depots};
 ghost use Rattle.leader_state.specs.State.{own_place};
-ghost use Rattle.paxos_box.specs.Room.{Room};
 ghost use Rattle.sends.specs.Sends.{suffix_length, sync_fits, next_session_of, next_seq_num_of, set_latest_of, latest_accdec, send_prepare, send_acc_sync, acc_sync_to, join_to, new_accept_decide, accept_decide_to, new_session, push_acc_sync, push_accept_decide, push_decide, decide_to, send_prepare_req, few_entries, send_one, for_marked, peers_of};
 
 use base::{LARGEST, MAX_DEPOTS};
 use leader_state::{PromiseMetaData, PromiseState};
 use messages::{AcceptDecide, AcceptSync, Decide, PaxosMsg, Prepare, PrepareReq};
-use paxos_box::{Join, Send, Sent, SequencePaxos, Source};
+use paxos_box::{Bounded, Join, Send, Sent, SequencePaxos, Source};
 use quorum::Configuration;
 use std::array::from_fn;
 
@@ -36,12 +35,10 @@ pub fn suffix_length(len: usize, from: usize) -> usize
 
 // A log sync to be built from past the own log's end makes the message unfit.
 #[tactic(auto, unfolding(crate::specs::Sends::sync_fits))]
-pub fn check_log_sync(s: SequencePaxos, from: usize) -> SequencePaxos
-    requires { Room s }
-    ensures value { result ≡ sync_fits from s }
-    ensures room { Room result }
+pub fn check_log_sync(s: Bounded, from: usize) -> Bounded
+    ensures { result ≡ sync_fits from s }
 {
-    if s.internal_storage.accepted_idx < from {
+    if s.inner.internal_storage.accepted_idx < from {
         s.refuse_unfit()
     } else {
         s
@@ -49,13 +46,11 @@ pub fn check_log_sync(s: SequencePaxos, from: usize) -> SequencePaxos
 }
 
 #[tactic(auto, unfolding(crate::specs::Sends::next_session_of))]
-fn increment_seq_num_session(s: SequencePaxos, to: u64) -> SequencePaxos
-    requires room { Room s }
-    requires own_place { own_place to }
-    ensures value { result ≡ next_session_of to s }
-    ensures room_2 { Room result }
+fn increment_seq_num_session(s: Bounded, to: u64) -> Bounded
+    requires { own_place to }
+    ensures { result ≡ next_session_of to s }
 {
-    let l = s.leader_state;
+    let l = s.inner.leader_state;
     if LARGEST <= l.get_seq_num(to).session {
         return s.refuse_top();
     }
@@ -63,37 +58,31 @@ fn increment_seq_num_session(s: SequencePaxos, to: u64) -> SequencePaxos
 }
 
 #[tactic(auto, unfolding(crate::specs::Sends::next_seq_num_of))]
-fn next_seq_num(s: SequencePaxos, to: u64) -> SequencePaxos
-    requires room { Room s }
-    requires own_place { own_place to }
-    ensures value { result ≡ next_seq_num_of to s }
-    ensures room_2 { Room result }
+fn next_seq_num(s: Bounded, to: u64) -> Bounded
+    requires { own_place to }
+    ensures { result ≡ next_seq_num_of to s }
 {
-    let l = s.leader_state;
+    let l = s.inner.leader_state;
     if LARGEST <= l.get_seq_num(to).counter {
         return s.refuse_top();
     }
     s.set_leader_state(l.next_seq_num(to))
 }
 
-pub fn set_latest_accept_meta(s: SequencePaxos, to: u64, latest: Option<usize>) -> SequencePaxos
-    requires room { Room s }
-    requires own_place { own_place to }
-    ensures value { result ≡ set_latest_of to latest s }
-    ensures room_2 { Room result }
+pub fn set_latest_accept_meta(s: Bounded, to: u64, latest: Option<usize>) -> Bounded
+    requires { own_place to }
+    ensures { result ≡ set_latest_of to latest s }
 {
-    s.set_leader_state(s.leader_state.set_latest_accept_meta(to, latest))
+    s.set_leader_state(s.inner.leader_state.set_latest_accept_meta(to, latest))
 }
 
 #[tactic(auto, unfolding(crate::specs::Sends::send_prepare))]
-pub fn send_prepare(s: SequencePaxos, to: u64) -> SequencePaxos
-    requires { Room s }
-    ensures value { result ≡ send_prepare to s }
-    ensures room { Room result }
+pub fn send_prepare(s: Bounded, to: u64) -> Bounded
+    ensures { result ≡ send_prepare to s }
 {
-    let found = s.internal_storage;
+    let found = s.inner.internal_storage;
     let prep = Prepare {
-        n: s.leader_state.n_leader,
+        n: s.inner.leader_state.n_leader,
         decided_idx: found.decided_idx,
         n_accepted: found.accepted_round,
         accepted_idx: found.accepted_idx,
@@ -103,11 +92,9 @@ pub fn send_prepare(s: SequencePaxos, to: u64) -> SequencePaxos
 
 // The session is raised, its counter starts at 1, and (the departure) the remembered AcceptDecide is forgotten.
 #[tactic(auto, unfolding(crate::specs::Sends::new_session))]
-fn new_session(s: SequencePaxos, to: u64) -> SequencePaxos
-    requires room { Room s }
-    requires own_place { own_place to }
-    ensures value { result ≡ new_session to s }
-    ensures room_2 { Room result }
+fn new_session(s: Bounded, to: u64) -> Bounded
+    requires { own_place to }
+    ensures { result ≡ new_session to s }
 {
     let s = increment_seq_num_session(s, to);
     let s = next_seq_num(s, to);
@@ -115,30 +102,26 @@ fn new_session(s: SequencePaxos, to: u64) -> SequencePaxos
 }
 
 #[tactic(auto, unfolding(crate::specs::Sends::push_acc_sync))]
-fn push_accsync(s: SequencePaxos, to: u64, from: usize) -> SequencePaxos
-    requires room { Room s }
-    requires own_place { own_place to }
-    ensures value { result ≡ push_acc_sync from to s }
-    ensures room_2 { Room result }
+fn push_accsync(s: Bounded, to: u64, from: usize) -> Bounded
+    requires { own_place to }
+    ensures { result ≡ push_acc_sync from to s }
 {
     let acc_sync = AcceptSync {
-        n: s.leader_state.n_leader,
-        seq_num: s.leader_state.get_seq_num(to),
-        decided_idx: s.internal_storage.decided_idx,
+        n: s.inner.leader_state.n_leader,
+        seq_num: s.inner.leader_state.get_seq_num(to),
+        decided_idx: s.inner.internal_storage.decided_idx,
         sync_idx: from,
     };
-    let count = suffix_length(s.internal_storage.accepted_idx, from);
+    let count = suffix_length(s.inner.internal_storage.accepted_idx, from);
     s.send_new(to, PaxosMsg::AcceptSync(acc_sync), Source::Log(from), count)
 }
 
 #[tactic(auto, unfolding(crate::specs::Sends::send_acc_sync))]
-fn send_accsync_from(s: SequencePaxos, to: u64, follower: PromiseMetaData) -> SequencePaxos
-    requires room { Room s }
-    requires own_place { own_place to }
-    ensures value { result ≡ send_acc_sync to follower s }
-    ensures room_2 { Room result }
+fn send_accsync_from(s: Bounded, to: u64, follower: PromiseMetaData) -> Bounded
+    requires { own_place to }
+    ensures { result ≡ send_acc_sync to follower s }
 {
-    let l = s.leader_state;
+    let l = s.inner.leader_state;
     let from = follower.sync_start(l.n_leader, l.max_promise.meta);
     let s = check_log_sync(s, from);
     push_accsync(new_session(s, to), to, from)
@@ -146,13 +129,11 @@ fn send_accsync_from(s: SequencePaxos, to: u64, follower: PromiseMetaData) -> Se
 
 // A depot that has promised is synced from where its promise says.
 #[tactic(auto, unfolding(crate::specs::Sends::acc_sync_to))]
-pub fn send_accsync(s: SequencePaxos, to: u64) -> SequencePaxos
-    requires room { Room s }
-    requires own_place { own_place to }
-    ensures value { result ≡ acc_sync_to to s }
-    ensures room_2 { Room result }
+pub fn send_accsync(s: Bounded, to: u64) -> Bounded
+    requires { own_place to }
+    ensures { result ≡ acc_sync_to to s }
 {
-    match s.leader_state.get_promise_meta(to) {
+    match s.inner.leader_state.get_promise_meta(to) {
         PromiseState::Promised(m) => send_accsync_from(s, to, m),
         PromiseState::NotPromised | PromiseState::PromisedHigher => s,
     }
@@ -174,13 +155,11 @@ fn get_latest_accdec_message(s: SequencePaxos, to: u64) -> Option<usize>
 
 // Entries and the decided index join the AcceptDecide at a position of the queue.
 #[tactic(auto, unfolding(crate::specs::Sends::join_to))]
-fn join(s: SequencePaxos, to: u64, at: usize, from: usize, count: usize) -> SequencePaxos
-    requires room { Room s }
-    requires count_bound { count ≤ 1024 }
-    ensures value { result ≡ join_to from count to at s }
-    ensures room_2 { Room result }
+fn join(s: Bounded, to: u64, at: usize, from: usize, count: usize) -> Bounded
+    requires { count ≤ 1024 }
+    ensures { result ≡ join_to from count to at s }
 {
-    let decided_idx = s.internal_storage.decided_idx;
+    let decided_idx = s.inner.internal_storage.decided_idx;
     s.push_send(Send {
         to,
         what: Sent::Join(Join { at, decided_idx }),
@@ -190,29 +169,25 @@ fn join(s: SequencePaxos, to: u64, at: usize, from: usize, count: usize) -> Sequ
 }
 
 #[tactic(auto, unfolding(crate::specs::Sends::push_accept_decide))]
-fn push_acceptdecide(s: SequencePaxos, to: u64, from: usize, count: usize) -> SequencePaxos
-    requires room { Room s }
+fn push_acceptdecide(s: Bounded, to: u64, from: usize, count: usize) -> Bounded
     requires own_place { own_place to }
     requires count_bound { count ≤ 1024 }
-    ensures value { result ≡ push_accept_decide from count to s }
-    ensures room_2 { Room result }
+    ensures { result ≡ push_accept_decide from count to s }
 {
     let acc = AcceptDecide {
-        n: s.leader_state.n_leader,
-        seq_num: s.leader_state.get_seq_num(to),
-        decided_idx: s.internal_storage.decided_idx,
+        n: s.inner.leader_state.n_leader,
+        seq_num: s.inner.leader_state.get_seq_num(to),
+        decided_idx: s.inner.internal_storage.decided_idx,
     };
     s.send_new(to, PaxosMsg::AcceptDecide(acc), Source::Log(from), count)
 }
 
 // A new AcceptDecide, remembered by its position.
 #[tactic(auto, unfolding(crate::specs::Sends::new_accept_decide))]
-fn new_acceptdecide(s: SequencePaxos, to: u64, from: usize, count: usize) -> SequencePaxos
-    requires room { Room s }
+fn new_acceptdecide(s: Bounded, to: u64, from: usize, count: usize) -> Bounded
     requires own_place { own_place to }
     requires count_bound { count ≤ 1024 }
-    ensures value { result ≡ new_accept_decide from count to s }
-    ensures room_2 { Room result }
+    ensures { result ≡ new_accept_decide from count to s }
 {
     let at = s.next_place();
     let s = set_latest_accept_meta(s, to, Some(at));
@@ -221,66 +196,56 @@ fn new_acceptdecide(s: SequencePaxos, to: u64, from: usize, count: usize) -> Seq
 
 // Entries that joined the log at `from` go to one depot, in a remembered AcceptDecide or a new one.
 #[tactic(auto, unfolding(crate::specs::Sends::accept_decide_to))]
-pub fn send_acceptdecide(s: SequencePaxos, to: u64, from: usize, count: usize) -> SequencePaxos
-    requires room { Room s }
+pub fn send_acceptdecide(s: Bounded, to: u64, from: usize, count: usize) -> Bounded
     requires own_place { own_place to }
     requires count_bound { count ≤ 1024 }
-    ensures value { result ≡ accept_decide_to from count to s }
-    ensures room_2 { Room result }
+    ensures { result ≡ accept_decide_to from count to s }
 {
-    match get_latest_accdec_message(s, to) {
+    match get_latest_accdec_message(s.inner, to) {
         Some(at) => join(s, to, at, from, count),
         None => new_acceptdecide(s, to, from, count),
     }
 }
 
 #[tactic(auto, unfolding(crate::specs::Sends::push_decide))]
-fn push_decide(s: SequencePaxos, to: u64) -> SequencePaxos
-    requires room { Room s }
-    requires own_place { own_place to }
-    ensures value { result ≡ push_decide to s }
-    ensures room_2 { Room result }
+fn push_decide(s: Bounded, to: u64) -> Bounded
+    requires { own_place to }
+    ensures { result ≡ push_decide to s }
 {
     let d = Decide {
-        n: s.leader_state.n_leader,
-        seq_num: s.leader_state.get_seq_num(to),
-        decided_idx: s.internal_storage.decided_idx,
+        n: s.inner.leader_state.n_leader,
+        seq_num: s.inner.leader_state.get_seq_num(to),
+        decided_idx: s.inner.internal_storage.decided_idx,
     };
     s.send_new(to, PaxosMsg::Decide(d), Source::Nothing, 0)
 }
 
 // The decided index goes to one depot, in a remembered AcceptDecide or a Decide.
 #[tactic(auto, unfolding(crate::specs::Sends::decide_to))]
-pub fn send_decide(s: SequencePaxos, to: u64) -> SequencePaxos
-    requires room { Room s }
-    requires own_place { own_place to }
-    ensures value { result ≡ decide_to to s }
-    ensures room_2 { Room result }
+pub fn send_decide(s: Bounded, to: u64) -> Bounded
+    requires { own_place to }
+    ensures { result ≡ decide_to to s }
 {
-    match get_latest_accdec_message(s, to) {
+    match get_latest_accdec_message(s.inner, to) {
         Some(at) => join(s, to, at, 0, 0),
         None => push_decide(next_seq_num(s, to), to),
     }
 }
 
 #[tactic(auto, unfolding(crate::specs::Sends::send_prepare_req))]
-pub fn send_preparereq(s: SequencePaxos, to: u64) -> SequencePaxos
-    requires { Room s }
-    ensures value { result ≡ send_prepare_req to s }
-    ensures room { Room result }
+pub fn send_preparereq(s: Bounded, to: u64) -> Bounded
+    ensures { result ≡ send_prepare_req to s }
 {
     let prepreq = PrepareReq {
-        n: s.internal_storage.promise,
+        n: s.inner.internal_storage.promise,
     };
     s.send_new(to, PaxosMsg::PrepareReq(prepreq), Source::Nothing, 0)
 }
 
-fn send_one(s: SequencePaxos, what: Each, to: u64) -> SequencePaxos
-    requires room { Room s }
+fn send_one(s: Bounded, what: Each, to: u64) -> Bounded
     requires own_place { own_place to }
     requires few_entries { few_entries what }
-    ensures value { result ≡ send_one what to s }
-    ensures room_2 { Room result }
+    ensures { result ≡ send_one what to s }
 {
     match what {
         Each::Prepare => send_prepare(s, to),
@@ -293,14 +258,12 @@ fn send_one(s: SequencePaxos, what: Each, to: u64) -> SequencePaxos
 
 // To each depot whose place is marked, in rising order.
 #[tactic(auto, using(crate::proofs::Turns::marked_turn), unfolding(crate::specs::Sends::for_marked))]
-pub fn send_each(s: SequencePaxos, what: Each, marks: [bool; MAX_DEPOTS as usize]) -> SequencePaxos
-    requires room { Room s }
-    requires few_entries { few_entries what }
-    ensures value { result ≡ for_marked marks what s.config.depots s }
-    ensures room_2 { Room result }
+pub fn send_each(s: Bounded, what: Each, marks: [bool; MAX_DEPOTS as usize]) -> Bounded
+    requires { few_entries what }
+    ensures { result ≡ for_marked marks what s.config.depots s }
 {
     let mut b = s;
-    for i in 0..s.config.depots {
+    for i in 0..s.inner.config.depots {
         if marks[i as usize] {
             b = send_one(b, what, i + 1);
         }

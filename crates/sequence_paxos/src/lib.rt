@@ -3,7 +3,6 @@
 
 ghost use Rattle.std.specs.Prelude.{◌≡◌};
 ghost use Rattle.leader_state.specs.State.{own_place};
-ghost use Rattle.paxos_box.specs.Room.{Room};
 ghost use Rattle.follower.specs.Follower.{few_cached};
 ghost use Rattle.outcome.specs.Outcome.{as_decision};
 ghost use Rattle.sequence_paxos.specs.Decide.{brought_by, handle, resend_by, taken, decide_of};
@@ -12,7 +11,7 @@ ghost use Rattle.sequence_paxos.specs.Fit.{Sound, few_in, fit_event};
 use base::Refusal;
 use leader_state::{LogSync, PromiseMetaData};
 use messages::{Event, PaxosMessage, PaxosMsg, Promise};
-use paxos_box::{Role, SequencePaxos};
+use paxos_box::{Bounded, Role, SequencePaxos};
 
 fn brought_by(sync: Option<usize>, count: usize) -> Option<LogSync>
     ensures { result ≡ brought_by sync count }
@@ -23,11 +22,9 @@ fn brought_by(sync: Option<usize>, count: usize) -> Option<LogSync>
     })
 }
 
-fn promise_arrives(s: SequencePaxos, p: Promise, count: usize, from: u64) -> SequencePaxos
-    requires room { Room s }
-    requires own_place { own_place from }
-    ensures value { result ≡ handle (PaxosMsg.Promise p) count from s }
-    ensures room_2 { Room result }
+fn promise_arrives(s: Bounded, p: Promise, count: usize, from: u64) -> Bounded
+    requires { own_place from }
+    ensures { result ≡ handle (PaxosMsg.Promise p) count from s }
 {
     let m = PromiseMetaData {
         n_accepted: p.n_accepted,
@@ -39,12 +36,11 @@ fn promise_arrives(s: SequencePaxos, p: Promise, count: usize, from: u64) -> Seq
 }
 
 // A message arrives from a depot, with `count` entries.
-fn handle(s: SequencePaxos, m: PaxosMsg, count: usize, from: u64) -> SequencePaxos
+fn handle(s: Bounded, m: PaxosMsg, count: usize, from: u64) -> Bounded
     requires sound { Sound s }
     requires own_place { own_place from }
     requires few_in { few_in m count }
-    ensures value { result ≡ handle m count from s }
-    ensures room { Room result }
+    ensures { result ≡ handle m count from s }
 {
     match m {
         PaxosMsg::PrepareReq(x) => leader::handle_preparereq(s, x.n, from),
@@ -59,23 +55,21 @@ fn handle(s: SequencePaxos, m: PaxosMsg, count: usize, from: u64) -> SequencePax
     }
 }
 
-fn resend_message_timeout(s: SequencePaxos) -> SequencePaxos
+fn resend_message_timeout(s: Bounded) -> Bounded
     requires { Sound s }
-    ensures value { result ≡ resend_by s.state.role s }
-    ensures room { Room result }
+    ensures { result ≡ resend_by s.state.role s }
 {
-    match s.state.role {
+    match s.inner.state.role {
         Role::Leader => leader::resend_messages_leader(s),
         Role::Follower => follower::resend_messages_follower(s),
     }
 }
 
 // What the step would do, were nothing refused.
-fn take(s: SequencePaxos, e: Event, count: usize) -> SequencePaxos
+fn take(s: Bounded, e: Event, count: usize) -> Bounded
     requires sound { Sound s }
     requires fit_event { fit_event e count }
-    ensures value { result ≡ taken e count s }
-    ensures room { Room result }
+    ensures { result ≡ taken e count s }
 {
     match e {
         Event::Message(m) => handle(s, m.msg, count, m.from),
@@ -94,5 +88,5 @@ pub fn decide(s: SequencePaxos, e: Event, count: usize) -> Result<SequencePaxos,
     requires fit_event { fit_event e count }
     ensures { as_decision s result ≡ decide_of e count s }
 {
-    outcome::settle(take(s, e, count))
+    outcome::settle(take(Bounded { inner: s }, e, count))
 }
