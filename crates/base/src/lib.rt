@@ -28,7 +28,7 @@ pub const MAX_DAY: u64 = 65_535;
 
 pub const PUMPS: usize = 256;
 
-pub const LARGEST: u64 = 0xffff_ffff_ffff_ffff;
+pub const LARGEST: u64 = u64::MAX;
 
 // The limits side by side, so that each constant is shown once to be its definition's number.
 #[derive(Clone, Copy)]

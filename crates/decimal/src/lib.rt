@@ -5,6 +5,9 @@ ghost use Rattle.std.specs.Prelude.{[], ◌∷◌, ◌+◌, ◌≤◌, ◌<◌, 
 ghost use Rattle.decimal.specs.Digits.{decimal_of};
 ghost use Rattle.decimal.specs.Text.{Put};
 
+// Kept: buffer and place are two arguments, and no struct: of one that holds the buffer behind a `&mut` the prover does not know, once it is let go, that
+// the buffer is what its methods left (tried with a book).
+
 // One byte.
 pub fn put(out: &mut [u8], at: usize, byte: u8) -> usize
     requires { at < length out.old }

@@ -18,6 +18,8 @@ const KINDS: u64 = 2;
 const DAY: u64 = PUMPS * KINDS;
 
 // A pump's cells, where each lies among them, and the book's.
+// Kept: cells by index, and no struct for a pump or for a book that stands: C lends the words (docs/LAYOUT.md), and of a struct that holds them behind a
+// `&mut` the prover does not know, once it is let go, that they are what its methods left (tried).
 pub const CELLS: usize = 3;
 
 pub const LAST_BACK: usize = 0;

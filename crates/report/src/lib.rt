@@ -89,49 +89,73 @@ impl Reader {
             ..self
         }
     }
-}
 
-// A line ends: its entry is applied, or the line is bad.
-#[tactic(auto, unfolding(crate::specs::Reading::end_of))]
-fn end_line(reader: Reader, book: &mut [u64]) -> Reader
-    requires { Sound book.old }
-    ensures { reading result book.new ≡ end_of (reading reader book.old) }
-{
-    match reader.state {
-        Line::Value(entry) if entry <= base::MAX_ENTRY => {
-            hire_book::apply_fit(book, entry);
-            reader.next_line()
+    // A line ends: its entry is applied, or the line is bad.
+    #[tactic(auto, unfolding(crate::specs::Reading::end_of))]
+    fn end_line(self, book: &mut [u64]) -> Self
+        requires { Sound book.old }
+        ensures { reading result book.new ≡ end_of (reading self book.old) }
+    {
+        match self.state {
+            Line::Value(entry) if entry <= base::MAX_ENTRY => {
+                hire_book::apply_fit(book, entry);
+                self.next_line()
+            }
+            _ => self.marked(),
         }
-        _ => reader.marked(),
     }
-}
 
-// A byte of a line, or the line's end; after a bad line all is skipped.
-#[tactic(auto, unfolding(crate::specs::Reading::byte_of))]
-fn take_byte(reader: Reader, byte: u8, book: &mut [u64]) -> Reader
-    requires { Sound book.old }
-    ensures { reading result book.new ≡ byte_of byte (reading reader book.old) }
-{
-    match reader.state {
-        Line::Bad => reader,
-        _ if byte == b'\n' => end_line(reader, book),
-        state => Reader {
-            state: Line::Value(value_after(state.value(), byte)),
-            ..reader
-        },
+    // A byte of a line, or the line's end; after a bad line all is skipped.
+    #[tactic(auto, unfolding(crate::specs::Reading::byte_of))]
+    fn take_byte(self, byte: u8, book: &mut [u64]) -> Self
+        requires { Sound book.old }
+        ensures { reading result book.new ≡ byte_of byte (reading self book.old) }
+    {
+        match self.state {
+            Line::Bad => self,
+            _ if byte == b'\n' => self.end_line(book),
+            state => Reader {
+                state: Line::Value(value_after(state.value(), byte)),
+                ..self
+            },
+        }
     }
-}
 
-#[tactic(auto, unfolding(crate::specs::Reading::feed_of))]
-fn take_part(reader: Reader, part: &[u8], book: &mut [u64]) -> Reader
-    requires { Sound book.old }
-    ensures { reading result book.new ≡ feed_of (reading reader book.old) part.now }
-{
-    let mut at = reader;
-    for &byte in part {
-        at = take_byte(at, byte, book);
+    #[tactic(auto, unfolding(crate::specs::Reading::feed_of))]
+    fn take_part(self, part: &[u8], book: &mut [u64]) -> Self
+        requires { Sound book.old }
+        ensures { reading result book.new ≡ feed_of (reading self book.old) part.now }
+    {
+        let mut at = self;
+        for &byte in part {
+            at = at.take_byte(byte, book);
+        }
+        at
     }
-    at
+
+    // The input ends: a line that has begun ends too.
+    #[tactic(auto, unfolding(crate::specs::Reading::last_of))]
+    fn take_last(self, book: &mut [u64]) -> Self
+        requires { Sound book.old }
+        ensures { reading result book.new ≡ last_of (reading self book.old) }
+    {
+        match self.state {
+            Line::Value(_) => self.end_line(book),
+            _ => self,
+        }
+    }
+
+    #[tactic(auto, unfolding(crate::specs::Reading::output_of))]
+    fn put_report(self, book: &[u64], out: &mut [u8]) -> usize
+        requires sound { Sound book.now }
+        requires report_bytes_in_bounds { report_bytes ≤ length out.old }
+        ensures { Put out.old 0 (output_of (reading self book.now)) result out.new }
+    {
+        match self.state {
+            Line::Bad => page::put_bad_line(out, self.line),
+            _ => page::put_page(out, book),
+        }
+    }
 }
 
 // A part of the input, taken in order after the parts before it; refused with 1 or 2, the reader that was passed goes on, and the book stays.
@@ -140,31 +164,7 @@ pub fn feed(reader: Reader, part: &[u8], book: &mut [u64]) -> Result<Reader, Ref
     ensures { seen_fed result reader book.new ≡ feed_step (reading reader book.old) part.now }
 {
     hire_book::check(book)?;
-    Ok(take_part(reader, part, book))
-}
-
-// The input ends: a line that has begun ends too.
-#[tactic(auto, unfolding(crate::specs::Reading::last_of))]
-fn take_last(reader: Reader, book: &mut [u64]) -> Reader
-    requires { Sound book.old }
-    ensures { reading result book.new ≡ last_of (reading reader book.old) }
-{
-    match reader.state {
-        Line::Value(_) => end_line(reader, book),
-        _ => reader,
-    }
-}
-
-#[tactic(auto, unfolding(crate::specs::Reading::output_of))]
-fn put_report(reader: Reader, book: &[u64], out: &mut [u8]) -> usize
-    requires sound { Sound book.now }
-    requires report_bytes_in_bounds { report_bytes ≤ length out.old }
-    ensures { Put out.old 0 (output_of (reading reader book.now)) result out.new }
-{
-    match reader.state {
-        Line::Bad => page::put_bad_line(out, reader.line),
-        _ => page::put_page(out, book),
-    }
+    Ok(reader.take_part(part, book))
 }
 
 // The input ends, and the whole report is written to the start of `out`, whose further bytes stay as found; the answer counts its bytes. Refused with 1
@@ -178,6 +178,6 @@ pub fn finish(reader: Reader, book: &mut [u64], out: &mut [u8]) -> Result<usize,
         return Err(Refusal::WrongCall);
     }
     hire_book::check(book)?;
-    let last = take_last(reader, book);
-    Ok(put_report(last, book, out))
+    let last = reader.take_last(book);
+    Ok(last.put_report(book, out))
 }
