@@ -1,7 +1,6 @@
 -- Written by tools/pins --write, from the promises of crates/sight/src: any two outcomes that a call's own promise allows are one.
-use mathlib.Core.Path.{◌≡◌, sym, ◌∙◌}
-use Rattle.pins.proofs.One.{One, OneAnswer}
-use Rattle.sight.proofs.part.Reads as part-reads
+use mathlib.Core.Path.{sym, ◌∙◌}
+use Rattle.pins.proofs.One.{OneAnswer}
 use Rattle.sight.proofs.first_change.Reads as first-change-reads
 use Rattle.sight.proofs.held_change.Reads as held-change-reads
 use Rattle.sight.proofs.brought_sync.Reads as brought-sync-reads
@@ -10,9 +9,6 @@ use Rattle.sight.proofs.accdec_marks.Reads as accdec-marks-reads
 use Rattle.sight.proofs.accepted_mark.Reads as accepted-mark-reads
 use Rattle.sight.proofs.queue_entries.Reads as queue-entries-reads
 use Rattle.sight.proofs.sight_of.Reads as sight-of-reads
-
-pub part : (κs : _) (a : _) → One (part-reads.Post κs a) (λ r s r′ s′. r.now ≡ r′.now)
-part κs a r₁ r₂ s₁ s₂ p q = p ∙ sym q
 
 pub first-change : (κs : _) (a : _) → OneAnswer (first-change-reads.Post κs a)
 first-change κs a r₁ r₂ s₁ s₂ p q = p ∙ sym q
