@@ -25,11 +25,12 @@ fn overlap(a: usize, n: usize, b: usize, m: usize) -> bool
 }
 
 // Whether some head of the first `len` passes the test.
+// Kept, here and below: a row with how many of its heads wait beside it, as C lends it (docs/LAYOUT.md); the heads past that many keep what they held (cell_laws).
 #[tactic(auto, unfolding(crate::specs::Heads::any_head))]
-fn any_head<F: Fn(Head) -> bool>(row: Row, len: usize, test: F) -> bool
+fn any_head<F: Fn(Head) -> bool>(row: &Row, len: usize, test: F) -> bool
     requires len_le_max_messages { len ≤ max_messages }
     requires callable { F.IsAlwaysCallable test }
-    ensures { (f : Head → Bool) → Tells (F.post test) f row len → result ≡ any_head f row len }
+    ensures { (f : Head → Bool) → Tells (F.post test) f row.now len → result ≡ any_head f row.now len }
 {
     for h in &row.heads[..len] {
         if test(*h) {
@@ -44,7 +45,7 @@ pub fn any_outside(row: Row, len: usize) -> bool
     requires { len ≤ max_messages }
     ensures { result ≡ any_head head_outside row len }
 {
-    any_head(row, len, |h| outside(h.start, h.count))
+    any_head(&row, len, |h| outside(h.start, h.count))
 }
 
 // Whether some head names a nonzero ballot whose pid is no depot.
@@ -52,7 +53,7 @@ pub fn any_foreign(row: Row, len: usize, c: Configuration) -> bool
     requires { len ≤ max_messages }
     ensures { result ≡ any_head (head_foreign c) row len }
 {
-    any_head(row, len, |h| unfit::ballot_foreign(c, h.msg))
+    any_head(&row, len, |h| unfit::ballot_foreign(c, h.msg))
 }
 
 // Whether some entry of the first `len` heads is above its limit.
@@ -60,15 +61,15 @@ pub fn any_head_above(row: Row, len: usize, store: &[u64]) -> bool
     requires { len ≤ max_messages }
     ensures { result ≡ any_head (head_above store.now) row len }
 {
-    any_head(row, len, |h| {
+    any_head(&row, len, |h| {
         hire_book::any_above(storage::part(store, h.start, h.count))
     })
 }
 
 // Whether a head's entries overlap those of some head before place j.
-fn overlaps_before(h: Head, row: Row, j: usize) -> bool
+fn overlaps_before(h: &Head, row: &Row, j: usize) -> bool
     requires { j ≤ max_messages }
-    ensures { result ≡ any_head (heads_overlap h) row j }
+    ensures { result ≡ any_head (heads_overlap h.now) row.now j }
 {
     any_head(row, j, |g| overlap(h.start, h.count, g.start, g.count))
 }
@@ -80,7 +81,7 @@ pub fn any_overlap(row: Row, len: usize) -> bool
     ensures { result ≡ any_overlap row len }
 {
     for (j, h) in row.heads[..len].iter().enumerate() {
-        if overlaps_before(*h, row, j) {
+        if overlaps_before(h, &row, j) {
             return true;
         }
     }

@@ -13,6 +13,7 @@ use messages::{Event, PaxosMsg, Row};
 use paxos_box::{AcceptedAt, Sight};
 use quorum::Configuration;
 use record::Record;
+use std::array::from_fn;
 
 // What stands at a place, 0 past the end.
 fn at(s: &[u64], i: usize) -> u64
@@ -30,6 +31,7 @@ fn changes_at(log: &[u64], start: usize, suffix: &[u64], i: usize) -> bool
 }
 
 // The first place below `len` that the suffix changes, `len` where it changes none.
+// Kept, here and below: a log with its length beside it, since `first_change` is promised of any two, also where the log has fewer cells.
 #[tactic(auto, unfolding(crate::specs::Sight::first_change))]
 pub fn first_change(log: &[u64], len: usize, start: usize, suffix: &[u64]) -> usize
     ensures { result ≡ first_change log.now len start suffix.now }
@@ -114,12 +116,14 @@ pub fn accdec_marks(c: Configuration, r: Record, row: Row) -> [bool; 7]
     requires { c.depots ≤ max_depots }
     ensures { result ≡ accdec_marks c r row }
 {
-    let mut marks = [false; 7];
-    for i in 0..c.depots as usize {
-        let latest = r.leader_state.get_latest_accept_meta(i as u64 + 1);
-        marks[i] = accdec_on(&row, r.outgoing, latest);
-    }
-    marks
+    from_fn(|i| {
+        (i as u64) < c.depots
+            && accdec_on(
+                &row,
+                r.outgoing,
+                r.leader_state.get_latest_accept_meta(i as u64 + 1),
+            )
+    })
 }
 
 // Whether the remembered Accepted still waits.

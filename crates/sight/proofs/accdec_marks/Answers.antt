@@ -1,12 +1,12 @@
--- `sight::accdec_marks` meets its contract: the places passed are marked.
-use mathlib.Core.Path.{◌∙◌, ap}
-use native.Mathlib.Omega.{arith}
+-- `sight::accdec_marks` meets its contract: each place is marked by what its call says.
+use Rattle.std.proofs.Common.{ℕ, ◌+◌, cond, ltb, false, rules, tests}
+use Rattle.leader_state.proofs.Rows.{made-tabulate}
 use Rattle.leader_state.specs.State.{depot_of}
-use Rattle.base.proofs.Lists.{marked_turn}
-use Rattle.sight.specs.Sight.{accdec_on}
+use Rattle.sight.specs.Sight.{accdec_on, accdec_marks}
 use Rattle.sight.proofs.accdec_marks.Goals as goal
 
-pub loop-i-preserved : goal.loop-i-preserved
-loop-i-preserved c =
-    marked_turn 7 c.loop-i.i (λ p. accdec_on c.args.row c.args.r.outgoing (depot_of p c.args.r.leader_state).latest) c.loop-i.marks _ c.loop-i.invariant
-    (c.accdec_on.ensures ∙ ap (accdec_on c.args.row c.args.r.outgoing) c.get_latest_accept_meta-latest.ensures) (omega arith)
+pub returns : goal.returns
+unfolding accdec_marks
+returns c =
+    let mark = λ (i : ℕ). cond (ltb i c.args.c.depots) (accdec_on c.args.row c.args.r.outgoing (depot_of (i + 1) c.args.r.leader_state).latest) false in
+    made-tabulate _ _ mark (λ i y q k. search (rules, tests)) false _ 7 c.from_fn.ensures.items
