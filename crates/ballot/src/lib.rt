@@ -14,7 +14,7 @@ pub struct Ballot {
     pub pid: u64,
 }
 
-// Kept: public functions whose promises the crates above and pins_rules name; each is one call of a derived one.
+// Kept: public functions, pinned by pins_rules; each promises that a derived one is the definition in specs/, and must-fail/priority_last is refused there.
 impl Ballot {
     pub fn default() -> Ballot
         ensures { result ≡ default }

@@ -112,13 +112,13 @@ impl PromiseMetaData {
     }
 
     // Where the sync of a depot that reported this starts, for the leader's ballot n and its best promise (send_accsync).
-    #[tactic(auto, unfolding(crate::specs::Promises::sync_start))]
+    #[tactic(auto, unfolding(ballot::specs::Ballot::same, ballot::specs::Ballot::compare_of, crate::specs::Promises::sync_start))]
     pub fn sync_start(self, n: Ballot, best: PromiseMetaData) -> usize
         ensures { result ≡ sync_start n best self }
     {
-        if self.n_accepted.same(n) {
+        if self.n_accepted == n {
             self.accepted_idx
-        } else if self.n_accepted.same(best.n_accepted) {
+        } else if self.n_accepted == best.n_accepted {
             best.accepted_idx.min(self.accepted_idx)
         } else {
             self.decided_idx
