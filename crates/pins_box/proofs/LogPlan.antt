@@ -17,19 +17,19 @@ pub sync-unfit : (κs : _) (a : _) → OneAnswer (sync-unfit-reads.Post κs a)
 sync-unfit κs a r₁ r₂ s₁ s₂ p q = p ∙ sym q
 
 pub sync-log : (κs : _) (a : _) → OneAnswer (sync-log-reads.Post κs a)
-sync-log κs a r₁ r₂ s₁ s₂ p q = p.0 ∙ sym q.0
+sync-log κs a r₁ r₂ s₁ s₂ p q = p ∙ sym q
 
 pub append-entries : (κs : _) (a : _) → OneAnswer (append-entries-reads.Post κs a)
-append-entries κs a r₁ r₂ s₁ s₂ p q = p.0 ∙ sym q.0
+append-entries κs a r₁ r₂ s₁ s₂ p q = p ∙ sym q
 
 pub append-buffered : (κs : _) (a : _) → OneAnswer (append-buffered-reads.Post κs a)
-append-buffered κs a r₁ r₂ s₁ s₂ p q = p.0 ∙ sym q.0
+append-buffered κs a r₁ r₂ s₁ s₂ p q = p ∙ sym q
 
 pub buffer-proposals : (κs : _) (a : _) → OneAnswer (buffer-proposals-reads.Post κs a)
-buffer-proposals κs a r₁ r₂ s₁ s₂ p q = p.0 ∙ sym q.0
+buffer-proposals κs a r₁ r₂ s₁ s₂ p q = p ∙ sym q
 
 pub forward-proposals : (κs : _) (a : _) → OneAnswer (forward-proposals-reads.Post κs a)
-forward-proposals κs a r₁ r₂ s₁ s₂ p q = p.0 ∙ sym q.0
+forward-proposals κs a r₁ r₂ s₁ s₂ p q = p ∙ sym q
 
 pub forward-buffered-proposals : (κs : _) (a : _) → OneAnswer (forward-buffered-proposals-reads.Post κs a)
-forward-buffered-proposals κs a r₁ r₂ s₁ s₂ p q = p.0 ∙ sym q.0
+forward-buffered-proposals κs a r₁ r₂ s₁ s₂ p q = p ∙ sym q

@@ -5,22 +5,25 @@ use Rattle.paxos_box.proofs.Role.is_leader.Reads as is-leader-reads
 use Rattle.paxos_box.proofs.Phase.is_recover.Reads as is-recover-reads
 use Rattle.paxos_box.proofs.Phase.is_accept.Reads as is-accept-reads
 use Rattle.paxos_box.proofs.State.standing.Reads as standing-reads
-use Rattle.paxos_box.proofs.SequencePaxos.push_send.Reads as push-send-reads
-use Rattle.paxos_box.proofs.SequencePaxos.send_new.Reads as send-new-reads
-use Rattle.paxos_box.proofs.SequencePaxos.next_place.Reads as next-place-reads
-use Rattle.paxos_box.proofs.SequencePaxos.refuse_unfit.Reads as refuse-unfit-reads
-use Rattle.paxos_box.proofs.SequencePaxos.refuse_top.Reads as refuse-top-reads
-use Rattle.paxos_box.proofs.SequencePaxos.set_state.Reads as set-state-reads
-use Rattle.paxos_box.proofs.SequencePaxos.set_leader_state.Reads as set-leader-state-reads
-use Rattle.paxos_box.proofs.SequencePaxos.set_storage.Reads as set-storage-reads
-use Rattle.paxos_box.proofs.SequencePaxos.set_promise.Reads as set-promise-reads
-use Rattle.paxos_box.proofs.SequencePaxos.set_decided_idx.Reads as set-decided-idx-reads
-use Rattle.paxos_box.proofs.SequencePaxos.set_length.Reads as set-length-reads
-use Rattle.paxos_box.proofs.SequencePaxos.set_current_seq_num.Reads as set-current-seq-num-reads
-use Rattle.paxos_box.proofs.SequencePaxos.set_cached.Reads as set-cached-reads
-use Rattle.paxos_box.proofs.SequencePaxos.set_latest_accepted.Reads as set-latest-accepted-reads
-use Rattle.paxos_box.proofs.SequencePaxos.set_buffered.Reads as set-buffered-reads
-use Rattle.paxos_box.proofs.SequencePaxos.set_writes.Reads as set-writes-reads
+use Rattle.paxos_box.proofs.SequencePaxos.set_storage.Reads as sequence-paxos-set-storage-reads
+use Rattle.paxos_box.proofs.SequencePaxos.set_length.Reads as sequence-paxos-set-length-reads
+use Rattle.paxos_box.proofs.SequencePaxos.set_buffered.Reads as sequence-paxos-set-buffered-reads
+use Rattle.paxos_box.proofs.Bounded.push_send.Reads as push-send-reads
+use Rattle.paxos_box.proofs.Bounded.send_new.Reads as send-new-reads
+use Rattle.paxos_box.proofs.Bounded.next_place.Reads as next-place-reads
+use Rattle.paxos_box.proofs.Bounded.refuse_unfit.Reads as refuse-unfit-reads
+use Rattle.paxos_box.proofs.Bounded.refuse_top.Reads as refuse-top-reads
+use Rattle.paxos_box.proofs.Bounded.set_state.Reads as set-state-reads
+use Rattle.paxos_box.proofs.Bounded.set_leader_state.Reads as set-leader-state-reads
+use Rattle.paxos_box.proofs.Bounded.set_promise.Reads as set-promise-reads
+use Rattle.paxos_box.proofs.Bounded.set_decided_idx.Reads as set-decided-idx-reads
+use Rattle.paxos_box.proofs.Bounded.set_current_seq_num.Reads as set-current-seq-num-reads
+use Rattle.paxos_box.proofs.Bounded.set_cached.Reads as set-cached-reads
+use Rattle.paxos_box.proofs.Bounded.set_latest_accepted.Reads as set-latest-accepted-reads
+use Rattle.paxos_box.proofs.Bounded.set_writes.Reads as set-writes-reads
+use Rattle.paxos_box.proofs.Bounded.set_storage.Reads as bounded-set-storage-reads
+use Rattle.paxos_box.proofs.Bounded.set_length.Reads as bounded-set-length-reads
+use Rattle.paxos_box.proofs.Bounded.set_buffered.Reads as bounded-set-buffered-reads
 use Rattle.paxos_box.proofs.Writes.with_log.Reads as with-log-reads
 use Rattle.paxos_box.proofs.Writes.with_cached.Reads as with-cached-reads
 use Rattle.paxos_box.proofs.Writes.with_best.Reads as with-best-reads
@@ -39,11 +42,20 @@ is-accept κs a r₁ r₂ s₁ s₂ p q = p ∙ sym q
 pub standing : (κs : _) (a : _) → OneAnswer (standing-reads.Post κs a)
 standing κs a r₁ r₂ s₁ s₂ p q = p ∙ sym q
 
+pub sequence-paxos-set-storage : (κs : _) (a : _) → OneAnswer (sequence-paxos-set-storage-reads.Post κs a)
+sequence-paxos-set-storage κs a r₁ r₂ s₁ s₂ p q = p ∙ sym q
+
+pub sequence-paxos-set-length : (κs : _) (a : _) → OneAnswer (sequence-paxos-set-length-reads.Post κs a)
+sequence-paxos-set-length κs a r₁ r₂ s₁ s₂ p q = p ∙ sym q
+
+pub sequence-paxos-set-buffered : (κs : _) (a : _) → OneAnswer (sequence-paxos-set-buffered-reads.Post κs a)
+sequence-paxos-set-buffered κs a r₁ r₂ s₁ s₂ p q = p ∙ sym q
+
 pub push-send : (κs : _) (a : _) → OneAnswer (push-send-reads.Post κs a)
-push-send κs a r₁ r₂ s₁ s₂ p q = p.0 ∙ sym q.0
+push-send κs a r₁ r₂ s₁ s₂ p q = p ∙ sym q
 
 pub send-new : (κs : _) (a : _) → OneAnswer (send-new-reads.Post κs a)
-send-new κs a r₁ r₂ s₁ s₂ p q = p.0 ∙ sym q.0
+send-new κs a r₁ r₂ s₁ s₂ p q = p ∙ sym q
 
 pub next-place : (κs : _) (a : _) → OneAnswer (next-place-reads.Post κs a)
 next-place κs a r₁ r₂ s₁ s₂ p q = p ∙ sym q
@@ -60,17 +72,11 @@ set-state κs a r₁ r₂ s₁ s₂ p q = p ∙ sym q
 pub set-leader-state : (κs : _) (a : _) → OneAnswer (set-leader-state-reads.Post κs a)
 set-leader-state κs a r₁ r₂ s₁ s₂ p q = p ∙ sym q
 
-pub set-storage : (κs : _) (a : _) → OneAnswer (set-storage-reads.Post κs a)
-set-storage κs a r₁ r₂ s₁ s₂ p q = p ∙ sym q
-
 pub set-promise : (κs : _) (a : _) → OneAnswer (set-promise-reads.Post κs a)
 set-promise κs a r₁ r₂ s₁ s₂ p q = p ∙ sym q
 
 pub set-decided-idx : (κs : _) (a : _) → OneAnswer (set-decided-idx-reads.Post κs a)
 set-decided-idx κs a r₁ r₂ s₁ s₂ p q = p ∙ sym q
-
-pub set-length : (κs : _) (a : _) → OneAnswer (set-length-reads.Post κs a)
-set-length κs a r₁ r₂ s₁ s₂ p q = p ∙ sym q
 
 pub set-current-seq-num : (κs : _) (a : _) → OneAnswer (set-current-seq-num-reads.Post κs a)
 set-current-seq-num κs a r₁ r₂ s₁ s₂ p q = p ∙ sym q
@@ -81,11 +87,17 @@ set-cached κs a r₁ r₂ s₁ s₂ p q = p ∙ sym q
 pub set-latest-accepted : (κs : _) (a : _) → OneAnswer (set-latest-accepted-reads.Post κs a)
 set-latest-accepted κs a r₁ r₂ s₁ s₂ p q = p ∙ sym q
 
-pub set-buffered : (κs : _) (a : _) → OneAnswer (set-buffered-reads.Post κs a)
-set-buffered κs a r₁ r₂ s₁ s₂ p q = p ∙ sym q
-
 pub set-writes : (κs : _) (a : _) → OneAnswer (set-writes-reads.Post κs a)
 set-writes κs a r₁ r₂ s₁ s₂ p q = p ∙ sym q
+
+pub bounded-set-storage : (κs : _) (a : _) → OneAnswer (bounded-set-storage-reads.Post κs a)
+bounded-set-storage κs a r₁ r₂ s₁ s₂ p q = p ∙ sym q
+
+pub bounded-set-length : (κs : _) (a : _) → OneAnswer (bounded-set-length-reads.Post κs a)
+bounded-set-length κs a r₁ r₂ s₁ s₂ p q = p ∙ sym q
+
+pub bounded-set-buffered : (κs : _) (a : _) → OneAnswer (bounded-set-buffered-reads.Post κs a)
+bounded-set-buffered κs a r₁ r₂ s₁ s₂ p q = p ∙ sym q
 
 pub with-log : (κs : _) (a : _) → OneAnswer (with-log-reads.Post κs a)
 with-log κs a r₁ r₂ s₁ s₂ p q = p ∙ sym q

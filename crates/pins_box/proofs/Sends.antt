@@ -16,28 +16,28 @@ pub suffix-length : (κs : _) (a : _) → OneAnswer (suffix-length-reads.Post κ
 suffix-length κs a r₁ r₂ s₁ s₂ p q = p.0 ∙ sym q.0
 
 pub check-log-sync : (κs : _) (a : _) → OneAnswer (check-log-sync-reads.Post κs a)
-check-log-sync κs a r₁ r₂ s₁ s₂ p q = p.0 ∙ sym q.0
+check-log-sync κs a r₁ r₂ s₁ s₂ p q = p ∙ sym q
 
 pub set-latest-accept-meta : (κs : _) (a : _) → OneAnswer (set-latest-accept-meta-reads.Post κs a)
-set-latest-accept-meta κs a r₁ r₂ s₁ s₂ p q = p.0 ∙ sym q.0
+set-latest-accept-meta κs a r₁ r₂ s₁ s₂ p q = p ∙ sym q
 
 pub send-prepare : (κs : _) (a : _) → OneAnswer (send-prepare-reads.Post κs a)
-send-prepare κs a r₁ r₂ s₁ s₂ p q = p.0 ∙ sym q.0
+send-prepare κs a r₁ r₂ s₁ s₂ p q = p ∙ sym q
 
 pub send-accsync : (κs : _) (a : _) → OneAnswer (send-accsync-reads.Post κs a)
-send-accsync κs a r₁ r₂ s₁ s₂ p q = p.0 ∙ sym q.0
+send-accsync κs a r₁ r₂ s₁ s₂ p q = p ∙ sym q
 
 pub send-acceptdecide : (κs : _) (a : _) → OneAnswer (send-acceptdecide-reads.Post κs a)
-send-acceptdecide κs a r₁ r₂ s₁ s₂ p q = p.0 ∙ sym q.0
+send-acceptdecide κs a r₁ r₂ s₁ s₂ p q = p ∙ sym q
 
 pub send-decide : (κs : _) (a : _) → OneAnswer (send-decide-reads.Post κs a)
-send-decide κs a r₁ r₂ s₁ s₂ p q = p.0 ∙ sym q.0
+send-decide κs a r₁ r₂ s₁ s₂ p q = p ∙ sym q
 
 pub send-preparereq : (κs : _) (a : _) → OneAnswer (send-preparereq-reads.Post κs a)
-send-preparereq κs a r₁ r₂ s₁ s₂ p q = p.0 ∙ sym q.0
+send-preparereq κs a r₁ r₂ s₁ s₂ p q = p ∙ sym q
 
 pub send-each : (κs : _) (a : _) → OneAnswer (send-each-reads.Post κs a)
-send-each κs a r₁ r₂ s₁ s₂ p q = p.0 ∙ sym q.0
+send-each κs a r₁ r₂ s₁ s₂ p q = p ∙ sym q
 
 pub peers : (κs : _) (a : _) → OneAnswer (peers-reads.Post κs a)
 peers κs a r₁ r₂ s₁ s₂ p q = p ∙ sym q
