@@ -96,7 +96,10 @@ pub fn handle_preparereq(s: Bounded, n: Ballot, from: u64) -> Bounded
     requires { own_place from }
     ensures { result ≡ handle_prepare_req n from s }
 {
-    if s.inner.state.role.is_leader() && n <= s.inner.leader_state.n_leader {
+    if s.inner.state.role.is_leader() {
+        if n > s.inner.leader_state.n_leader {
+            return s;
+        }
         return prepare_again(s, from);
     }
     s
