@@ -24,8 +24,8 @@ pub struct Lists<'a> {
     pub book: &'a [u64],
 }
 
-fn buffer_above(r: Record) -> bool
-    ensures { result ≡ buffer_above r }
+fn buffer_above(r: &Record) -> bool
+    ensures { result ≡ buffer_above r.now }
 {
     let b = &r.buffered_proposals;
     hire_book::any_above(storage::first(&b.entries, b.len))
@@ -37,26 +37,23 @@ fn held_above(sync: Option<LogSync>, buffer: &[u64]) -> bool
     sync.is_some_and(|x| hire_book::any_above(storage::first(buffer, x.len)))
 }
 
-fn cached_sync(r: Record) -> Option<LogSync>
-    ensures { result ≡ cached_sync r }
+fn cached_sync(r: &Record) -> Option<LogSync>
+    ensures { result ≡ cached_sync r.now }
 {
-    match r.cached_promise_message {
-        None => None,
-        Some(p) => p.sync,
-    }
+    r.cached_promise_message.and_then(|p| p.sync)
 }
 
-fn best_sync(r: Record) -> Option<LogSync>
-    ensures { result ≡ best_sync r }
+fn best_sync(r: &Record) -> Option<LogSync>
+    ensures { result ≡ best_sync r.now }
 {
     r.leader_state.max_promise.sync
 }
 
 // A kept entry above its limit. Cells past a length are not read.
 #[tactic(auto, unfolding(crate::specs::Broken::kept_above))]
-fn kept_above(r: Record, row: Row, lists: Lists) -> bool
-    requires { r.outgoing ≤ max_messages }
-    ensures { result ≡ kept_above r row lists.entry.log.now lists.entry.cached.now lists.entry.best.now lists.entry.store.now }
+fn kept_above(r: &Record, row: &Row, lists: Lists) -> bool
+    requires { r.now.outgoing ≤ max_messages }
+    ensures { result ≡ kept_above r.now row.now lists.entry.log.now lists.entry.cached.now lists.entry.best.now lists.entry.store.now }
 {
     hire_book::any_above(storage::first(lists.log, r.internal_storage.accepted_idx))
         || buffer_above(r)
@@ -66,8 +63,8 @@ fn kept_above(r: Record, row: Row, lists: Lists) -> bool
 }
 
 #[tactic(auto, unfolding(crate::specs::Broken::over_limit))]
-fn over_limit(r: Record) -> bool
-    ensures { result ≡ over_limit r }
+fn over_limit(r: &Record) -> bool
+    ensures { result ≡ over_limit r.now }
 {
     MAX_MESSAGES < r.outgoing || MAX_BUFFERED < r.buffered_proposals.len
 }
@@ -80,9 +77,9 @@ fn meta_past(len: usize, m: Option<AcceptedAt>) -> bool
 
 // A remembered position at or past the queue's end.
 #[tactic(auto, unfolding(crate::specs::Broken::position_past))]
-fn position_past(c: Configuration, r: Record) -> bool
+fn position_past(c: Configuration, r: &Record) -> bool
     requires { c.depots ≤ max_depots }
-    ensures { result ≡ position_past c r }
+    ensures { result ≡ position_past c r.now }
 {
     places::any_past(r.leader_state, c.depots, r.outgoing)
         || meta_past(r.outgoing, r.latest_accepted_meta)
@@ -90,9 +87,9 @@ fn position_past(c: Configuration, r: Record) -> bool
 
 // A head whose entries lie outside the store or overlap another's.
 #[tactic(auto, unfolding(crate::specs::Broken::head_off))]
-fn head_off(r: Record, row: Row) -> bool
-    requires { r.outgoing ≤ max_messages }
-    ensures { result ≡ head_off r row }
+fn head_off(r: &Record, row: &Row) -> bool
+    requires { r.now.outgoing ≤ max_messages }
+    ensures { result ≡ head_off r.now row.now }
 {
     heads::any_outside(row, r.outgoing) || heads::any_overlap(row, r.outgoing)
 }
@@ -105,16 +102,16 @@ fn held_past(sync: Option<LogSync>) -> bool
 
 // A held sync ending past the log's limit.
 #[tactic(auto, unfolding(crate::specs::Broken::sync_past))]
-fn sync_past(r: Record) -> bool
-    ensures { result ≡ sync_past r }
+fn sync_past(r: &Record) -> bool
+    ensures { result ≡ sync_past r.now }
 {
     held_past(best_sync(r)) || held_past(cached_sync(r))
 }
 
 // A Leader whose ballot's pid is not its own.
 #[tactic(auto, unfolding(crate::specs::Broken::leader_off))]
-fn leader_off(c: Configuration, r: Record) -> bool
-    ensures { result ≡ leader_off c r }
+fn leader_off(c: Configuration, r: &Record) -> bool
+    ensures { result ≡ leader_off c r.now }
 {
     r.state.role.is_leader() && r.leader_state.n_leader.pid != c.pid
 }
@@ -133,10 +130,10 @@ fn meta_foreign(c: Configuration, m: Option<AcceptedAt>) -> bool
 
 // A kept nonzero ballot whose pid is no depot.
 #[tactic(auto, unfolding(crate::specs::Broken::kept_foreign))]
-fn kept_foreign(c: Configuration, r: Record, row: Row) -> bool
+fn kept_foreign(c: Configuration, r: &Record, row: &Row) -> bool
     requires depots_le_max_depots { c.depots ≤ max_depots }
-    requires outgoing_le_max_messages { r.outgoing ≤ max_messages }
-    ensures { result ≡ kept_foreign c r row }
+    requires outgoing_le_max_messages { r.now.outgoing ≤ max_messages }
+    ensures { result ≡ kept_foreign c r.now row.now }
 {
     let l = r.leader_state;
     unfit::either_foreign(
@@ -158,10 +155,10 @@ fn message_default(m: Option<CachedPromise>) -> bool
 
 // What record and row alone say.
 #[tactic(auto, unfolding(crate::specs::Broken::state_broken))]
-fn state_broken(c: Configuration, r: Record, row: Row) -> bool
+fn state_broken(c: Configuration, r: &Record, row: &Row) -> bool
     requires depots_le_max_depots { c.depots ≤ max_depots }
-    requires outgoing_le_max_messages { r.outgoing ≤ max_messages }
-    ensures { result ≡ state_broken c r row }
+    requires outgoing_le_max_messages { r.now.outgoing ≤ max_messages }
+    ensures { result ≡ state_broken c r.now row.now }
 {
     position_past(c, r)
         || head_off(r, row)
@@ -181,8 +178,8 @@ pub fn broken(c: Configuration, r: Record, row: Row, lists: Lists) -> bool
 {
     r.internal_storage.accepted_idx < r.internal_storage.decided_idx
         || MAX_LOG < r.internal_storage.accepted_idx
-        || over_limit(r)
-        || kept_above(r, row, lists)
-        || state_broken(c, r, row)
+        || over_limit(&r)
+        || kept_above(&r, &row, lists)
+        || state_broken(c, &r, &row)
         || hire_book::any_broken(lists.book)
 }

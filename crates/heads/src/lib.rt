@@ -41,27 +41,27 @@ fn any_head<F: Fn(Head) -> bool>(row: &Row, len: usize, test: F) -> bool
 }
 
 // Whether the entries of some head lie outside the store.
-pub fn any_outside(row: Row, len: usize) -> bool
+pub fn any_outside(row: &Row, len: usize) -> bool
     requires { len ≤ max_messages }
-    ensures { result ≡ any_head head_outside row len }
+    ensures { result ≡ any_head head_outside row.now len }
 {
-    any_head(&row, len, |h| outside(h.start, h.count))
+    any_head(row, len, |h| outside(h.start, h.count))
 }
 
 // Whether some head names a nonzero ballot whose pid is no depot.
-pub fn any_foreign(row: Row, len: usize, c: Configuration) -> bool
+pub fn any_foreign(row: &Row, len: usize, c: Configuration) -> bool
     requires { len ≤ max_messages }
-    ensures { result ≡ any_head (head_foreign c) row len }
+    ensures { result ≡ any_head (head_foreign c) row.now len }
 {
-    any_head(&row, len, |h| unfit::ballot_foreign(c, h.msg))
+    any_head(row, len, |h| unfit::ballot_foreign(c, h.msg))
 }
 
 // Whether some entry of the first `len` heads is above its limit.
-pub fn any_head_above(row: Row, len: usize, store: &[u64]) -> bool
+pub fn any_head_above(row: &Row, len: usize, store: &[u64]) -> bool
     requires { len ≤ max_messages }
-    ensures { result ≡ any_head (head_above store.now) row len }
+    ensures { result ≡ any_head (head_above store.now) row.now len }
 {
-    any_head(&row, len, |h| {
+    any_head(row, len, |h| {
         hire_book::any_above(storage::part(store, h.start, h.count))
     })
 }
@@ -76,12 +76,12 @@ fn overlaps_before(h: &Head, row: &Row, j: usize) -> bool
 
 // Whether the entries of two of the first `len` heads overlap.
 #[tactic(auto, unfolding(hire_book::specs::Below::any_below, crate::specs::Heads::any_overlap))]
-pub fn any_overlap(row: Row, len: usize) -> bool
+pub fn any_overlap(row: &Row, len: usize) -> bool
     requires { len ≤ max_messages }
-    ensures { result ≡ any_overlap row len }
+    ensures { result ≡ any_overlap row.now len }
 {
     for (j, h) in row.heads[..len].iter().enumerate() {
-        if overlaps_before(h, &row, j) {
+        if overlaps_before(h, row, j) {
             return true;
         }
     }

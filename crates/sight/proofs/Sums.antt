@@ -1,18 +1,13 @@
--- Sums over the numbers below a bound: one number more, and a part is at most the whole.
+-- Sums over the numbers below a bound: a part is at most the whole.
 use Prim.Native.Nat.{ℕ, zero, suc, ◌+◌, ◌≤◌, ◌<◌}
 use mathlib.Core.Path.{◌≡◌, refl}
 use mathlib.Core.Bool.{Bool, true, false}
 use native.Mathlib.Omega.{arith}
-use native.Mathlib.Numerals.{add-one}
 use lib.Dec.{ltb}
 use borrow.Author.Tests.{ltb-true, ltb-false}
 use Rattle.hire_book.specs.Below.{sum_below}
 
 module _ (f : ℕ → ℕ) where
-  pub sum_more : (i s v : ℕ) → s ≡ sum_below f i → v ≡ f i → s + v ≡ sum_below f (i + 1)
-  unfolding sum_below
-  sum_more i s v p q = rw (add-one, p, q)
-
   pub sum-part : (i n : ℕ) → i ≤ n → sum_below f i ≤ sum_below f n
   unfolding sum_below
   sum-part i zero h = let e : i ≡ 0 = omega arith in rw e (omega arith)

@@ -8,6 +8,7 @@ ghost use Rattle.messages.specs.Messages.{no_head};
 ghost use Rattle.messages.specs.declared.PaxosMsg.{PaxosMsg};
 ghost use Rattle.sight.specs.Sight.{changes_at, first_change, held_change, sync_in, brought, brought_change, head_at, TellsMessage, accdec_on, accepted_on, accdec_marks, accepted_mark, queue_entries, sight_of};
 
+use base::MAX_DEPOTS;
 use leader_state::LogSync;
 use messages::{Event, PaxosMsg, Row};
 use paxos_box::{AcceptedAt, Sight};
@@ -47,10 +48,9 @@ pub fn first_change(log: &[u64], len: usize, start: usize, suffix: &[u64]) -> us
 pub fn held_change(sync: Option<LogSync>, log: &[u64], len: usize, best: &[u64]) -> usize
     ensures { result ≡ held_change sync log.now len best.now }
 {
-    match sync {
-        None => len,
-        Some(x) => first_change(log, len, x.sync_idx, storage::first(best, x.len)),
-    }
+    sync.map_or(len, |x| {
+        first_change(log, len, x.sync_idx, storage::first(best, x.len))
+    })
 }
 
 fn sync_in(m: PaxosMsg) -> Option<usize>
@@ -76,10 +76,7 @@ pub fn brought_sync(e: Event) -> Option<usize>
 pub fn brought_change(sync: Option<usize>, log: &[u64], len: usize, entries: &[u64]) -> usize
     ensures { result ≡ brought_change sync log.now len entries.now }
 {
-    match sync {
-        None => len,
-        Some(start) => first_change(log, len, start, entries),
-    }
+    sync.map_or(len, |start| first_change(log, len, start, entries))
 }
 
 // Whether a remembered position lies in the queue, and a message that passes the test stands there.
@@ -111,15 +108,14 @@ fn accepted_on(row: &Row, len: usize, meta: Option<AcceptedAt>) -> bool
 }
 
 // A mark for each place: the AcceptDecide that is remembered of the depot there still waits.
-#[tactic(auto, unfolding(base::specs::Lists::tabulate, crate::specs::Sight::accdec_marks))]
-pub fn accdec_marks(c: Configuration, r: Record, row: Row) -> [bool; 7]
+pub fn accdec_marks(c: Configuration, r: &Record, row: &Row) -> [bool; MAX_DEPOTS as usize]
     requires { c.depots ≤ max_depots }
-    ensures { result ≡ accdec_marks c r row }
+    ensures { result ≡ accdec_marks c r.now row.now }
 {
     from_fn(|i| {
         (i as u64) < c.depots
             && accdec_on(
-                &row,
+                row,
                 r.outgoing,
                 r.leader_state.get_latest_accept_meta(i as u64 + 1),
             )
@@ -127,10 +123,10 @@ pub fn accdec_marks(c: Configuration, r: Record, row: Row) -> [bool; 7]
 }
 
 // Whether the remembered Accepted still waits.
-pub fn accepted_mark(r: Record, row: Row) -> bool
-    ensures { result ≡ accepted_mark r row }
+pub fn accepted_mark(r: &Record, row: &Row) -> bool
+    ensures { result ≡ accepted_mark r.now row.now }
 {
-    accepted_on(&row, r.outgoing, r.latest_accepted_meta)
+    accepted_on(row, r.outgoing, r.latest_accepted_meta)
 }
 
 // How many entries the first `len` messages of the row carry: what a record that is not broken has fits the store.
@@ -162,8 +158,8 @@ pub fn sight_of(
 {
     let len = r.internal_storage.accepted_idx;
     Sight {
-        accdec: accdec_marks(c, r, row),
-        accepted: accepted_mark(r, row),
+        accdec: accdec_marks(c, &r, &row),
+        accepted: accepted_mark(&r, &row),
         held_change: held_change(r.leader_state.max_promise.sync, log, len, best),
         brought_change: brought_change(brought_sync(e), log, len, entries),
     }

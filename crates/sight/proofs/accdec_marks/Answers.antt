@@ -8,5 +8,5 @@ use Rattle.sight.proofs.accdec_marks.Goals as goal
 pub returns : goal.returns
 unfolding accdec_marks
 returns c =
-    let mark = λ (i : ℕ). cond (ltb i c.args.c.depots) (accdec_on c.args.row c.args.r.outgoing (depot_of (i + 1) c.args.r.leader_state).latest) false in
+    let mark = λ (i : ℕ). cond (ltb i c.args.c.depots) (accdec_on c.args.row.now c.args.r.now.outgoing (depot_of (i + 1) c.args.r.now.leader_state).latest) false in
     made-tabulate _ _ mark (λ i y q k. search (rules, tests)) false _ 7 c.from_fn.ensures.items
