@@ -11,11 +11,9 @@ use Rattle.base.specs.Limits.{max_entry, largest}
 use Rattle.decimal.specs.Digits.{all_digits, value_of}
 use Rattle.page.specs.Page.{line_end}
 use Rattle.hire_book.specs.Book.{apply_of}
-use Rattle.report.specs.declared.Line.{Line}
-use Rattle.report.specs.declared.Line.TheVariants.{Empty, Value}
 use Rattle.report.specs.declared.Reader.{Reader}
 use Rattle.report.specs.Report.{lines_of, is_empty, is_bad}
-use Rattle.report.specs.Reading.{reading, begun, held, spoilt, line_after, with_byte, marked, end_of}
+use Rattle.report.specs.Reading.{reading, line_after, with_byte, marked, end_of}
 use Rattle.report.proofs.Value.{kept_from, kept-snoc, kept}
 
 -- bytes none of which ends a line
@@ -38,34 +36,16 @@ unfolding lines_of
 lines-one b e none = rw e
 lines-one b e (more {b = a} q o) = rw (e, lines-one a q o)
 
--- what a reader has of a line that is not bad after its first bytes
-abbrev pub state_of : List ℕ → Line
-state_of [] = Empty
-state_of (b ∷ line) = Value (kept_from 0 (b ∷ line))
-
-state-held : (line : List ℕ) → held (state_of line) ≡ kept_from 0 line
-unfolding kept_from
-state-held [] = refl
-state-held (b ∷ line) = refl
-
-state-begun : (line : List ℕ) → begun (state_of line) ≡ not (is_empty line)
-state-begun [] = refl
-state-begun (b ∷ line) = refl
-
-pub state-open : (line : List ℕ) → spoilt (state_of line) ≡ false
-state-open [] = refl
-state-open (b ∷ line) = refl
-
-state-snoc : (b : ℕ) (line : List ℕ) → state_of (line ++ (b ∷ [])) ≡ Value (kept_from 0 (line ++ (b ∷ [])))
-state-snoc b [] = refl
-state-snoc b (a ∷ line) = refl
-
 -- the reader in line n, after the line's first bytes
 abbrev pub reader_at : ℕ → List ℕ → Reader
-reader_at n line = record { line = min n largest; state = state_of line }
+reader_at n line = record { line = min n largest; any = not (is_empty line); value = kept_from 0 line; bad = false }
+
+some : (b : ℕ) (line : List ℕ) → is_empty (line ++ (b ∷ [])) ≡ false
+some b [] = refl
+some b (a ∷ line) = refl
 
 pub reader-byte : (n b : ℕ) (line : List ℕ) → with_byte b (reader_at n line) ≡ reader_at n (line ++ (b ∷ []))
-reader-byte n b line = rw (state-held line, state-snoc b line, kept-snoc 0 b line)
+reader-byte n b line = rw (some b line, kept-snoc 0 b line)
 
 line-after : (n : ℕ) → line_after (min n largest) ≡ min (suc n) largest
 unfolding line_after
@@ -96,11 +76,11 @@ fits line = rw ((kept 0 line (omega arith)).fits, above (value_of line)) (tests 
 -- a bad line's end, and a good one's
 pub end-bad : (n : ℕ) (line book : List ℕ) → is_bad line ≡ true → end_of (reading (reader_at n line) book) ≡ reading (marked (reader_at n line)) book
 unfolding end_of
-end-bad n line book e = rw (state-begun line, state-held line, fits line, e)
+end-bad n line book e = rw (fits line, e)
 
 pub end-good : (n : ℕ) (line book : List ℕ) → is_bad line ≡ false → end_of (reading (reader_at n line) book) ≡ reading (reader_at (suc n) []) (apply_of (value_of line) book)
 unfolding end_of kept_from
 end-good n line book e =
     let t : (not (is_empty line) && leb (kept_from 0 line) max_entry) ≡ true = rw (fits line, e) in
     let k = (kept 0 line (omega arith)).says (leb-true (kept_from 0 line) max_entry (both (not (is_empty line)) (leb (kept_from 0 line) max_entry) t).1) in
-    rw (state-begun line, state-held line, t, k, line-after n)
+    rw (t, k, line-after n)

@@ -18,7 +18,7 @@ use Rattle.page.specs.Page.{line_end}
 use Rattle.hire_book.specs.Book.{book_length, apply_of, Sound}
 use Rattle.hire_book.specs.Step.{wrong_length}
 use Rattle.hire_book.proofs.Sound.{apply-sound, fresh-sound}
-use Rattle.report.specs.Reading.{Reading, reading, begun, held, spoilt, with_byte, next_line, marked, end_of, byte_of, feed_of, last_of, output_of}
+use Rattle.report.specs.Reading.{Reading, reading, with_byte, next_line, marked, end_of, byte_of, feed_of, last_of, output_of}
 use Rattle.report.specs.Step.{SeenFed, feed_step, SeenReport, written, Counted, feed_parts, fresh_reading, joined}
 
 -- however the input is cut
@@ -43,14 +43,14 @@ either false a b f g = g refl
 pub end-sound : (d : Reading) → Sound d.book → Sound (end_of d).book
 unfolding end_of
 end-sound d s =
-    either (begun d.reader.state && leb (held d.reader.state) max_entry) (reading (next_line d.reader) (apply_of (held d.reader.state) d.book)) (reading (marked d.reader) d.book)
-    (λ e. apply-sound (held d.reader.state) d.book (leb-true (held d.reader.state) max_entry (both (begun d.reader.state) (leb (held d.reader.state) max_entry) e).1) s)
+    either (d.reader.any && leb d.reader.value max_entry) (reading (next_line d.reader) (apply_of d.reader.value d.book)) (reading (marked d.reader) d.book)
+    (λ e. apply-sound d.reader.value d.book (leb-true d.reader.value max_entry (both d.reader.any (leb d.reader.value max_entry) e).1) s)
     (λ _. s)
 
 pub byte-sound : (b : ℕ) (d : Reading) → Sound d.book → Sound (byte_of b d).book
 unfolding byte_of
 byte-sound b d s =
-    either (spoilt d.reader.state) d (cond (eqb b line_end) (end_of d) (reading (with_byte b d.reader) d.book)) (λ _. s)
+    either d.reader.bad d (cond (eqb b line_end) (end_of d) (reading (with_byte b d.reader) d.book)) (λ _. s)
     (λ _. either (eqb b line_end) (end_of d) (reading (with_byte b d.reader) d.book) (λ _. end-sound d s) (λ _. s))
 
 -- whatever is the outcome of a byte has a sound book
@@ -65,8 +65,8 @@ feed-sound d (b ∷ bytes) s = feed-sound (byte_of b d) bytes (byte-sound b d s)
 pub last-sound : (d : Reading) → Sound d.book → Sound (last_of d).book
 unfolding last_of
 last-sound d s =
-    either (spoilt d.reader.state) d (cond (begun d.reader.state) (end_of d) d) (λ _. s)
-    (λ _. either (begun d.reader.state) (end_of d) d (λ _. end-sound d s) (λ _. s))
+    either d.reader.bad d (cond d.reader.any (end_of d) d) (λ _. s)
+    (λ _. either d.reader.any (end_of d) d (λ _. end-sound d s) (λ _. s))
 
 pub ended-sound : (d : Reading) {last : Reading} → last ≡ last_of d → Sound d.book → Sound last.book
 ended-sound d e s = subst (λ (x : Reading). Sound x.book) (sym e) (last-sound d s)

@@ -17,11 +17,11 @@ use Rattle.hire_book.proofs.Sound.{fresh-sound}
 use Rattle.hire_laws.proofs.Stored.{stored-days, stored-total}
 use Rattle.report.specs.declared.Reader.{Reader}
 use Rattle.report.specs.Report.{onto, lines_of, is_bad, first_bad_from, first_bad, entries_of, report_of}
-use Rattle.report.specs.Reading.{Reading, reading, spoilt, marked, end_of, byte_of, feed_of, last_of, output_of}
+use Rattle.report.specs.Reading.{Reading, reading, marked, end_of, byte_of, feed_of, last_of, output_of}
 use Rattle.report.specs.Step.{finish_step, written, feed_parts, fresh_reading, joined}
 use Rattle.report.proofs.Value.{kept_from}
 use Rattle.report.proofs.Reading.{feed-sound, not-wrong, parts-fed}
-use Rattle.report.proofs.Lines.{Open, none, more, open_snoc, lines_end, lines-one, state-open, reader_at, reader-byte, end-bad, end-good}
+use Rattle.report.proofs.Lines.{Open, none, more, open_snoc, lines_end, lines-one, reader_at, reader-byte, end-bad, end-good}
 
 -- where the reader and the book are after lines of which the first has number n
 unfoldable after : ℕ → List (List ℕ) → List ℕ → Reading
@@ -41,19 +41,19 @@ first : {A : Type 0} (t : Bool) (a b : A) → t ≡ true → cond t a b ≡ a
 first true a b e = refl
 first false a b e = absurd (let z : ◌≡◌ {A = ℕ} 0 1 = cc in omega arith)
 
-frozen : (d : Reading) (bytes : List ℕ) → spoilt d.reader.state ≡ true → last_of (feed_of d bytes) ≡ d
+frozen : (d : Reading) (bytes : List ℕ) → d.reader.bad ≡ true → last_of (feed_of d bytes) ≡ d
 unfolding feed_of last_of byte_of
-frozen d [] e = first (spoilt d.reader.state) d _ e
-frozen d (b ∷ bytes) e = ap (λ (x : Reading). last_of (feed_of x bytes)) (first (spoilt d.reader.state) d _ e) ∙ frozen d bytes e
+frozen d [] e = first d.reader.bad d _ e
+frozen d (b ∷ bytes) e = ap (λ (x : Reading). last_of (feed_of x bytes)) (first d.reader.bad d _ e) ∙ frozen d bytes e
 
 -- a byte that ends a line, and one that does not
 byte-end : (n b : ℕ) (line book : List ℕ) → eqb b line_end ≡ true → byte_of b (reading (reader_at n line) book) ≡ end_of (reading (reader_at n line) book)
 unfolding byte_of
-byte-end n b line book e = rw (state-open line, e)
+byte-end n b line book e = rw e
 
 byte_more : (n b : ℕ) (line book : List ℕ) → eqb b line_end ≡ false → byte_of b (reading (reader_at n line) book) ≡ reading (reader_at n (line ++ (b ∷ []))) book
 unfolding byte_of
-byte_more n b line book e = rw (state-open line, e) (ap (λ (r : Reader). reading r book) (reader-byte n b line))
+byte_more n b line book e = rw e (ap (λ (r : Reader). reading r book) (reader-byte n b line))
 
 -- the bytes after a line's end, where what they do after a good line is known
 ended : (n : ℕ) (line book bytes : List ℕ) → (last_of (feed_of (reading (reader_at (suc n) []) (apply_of (value_of line) book)) bytes) ≡ after (suc n) (lines_of bytes) (apply_of (value_of line) book)) → (t : Bool) → is_bad line ≡ t → last_of (feed_of (end_of (reading (reader_at n line) book)) bytes) ≡ after n (line ∷ lines_of bytes) book

@@ -4,7 +4,7 @@
 ghost use Rattle.std.specs.Prelude.{◌≡◌, ◌≤◌, length, IfOk};
 ghost use Rattle.decimal.specs.Text.{Put};
 ghost use Rattle.hire_book.specs.Book.{Sound};
-ghost use Rattle.report.specs.Reading.{fresh_reader, held, value_after, line_after, next_line, marked, reading, end_of, byte_of, feed_of, last_of, output_of};
+ghost use Rattle.report.specs.Reading.{fresh_reader, value_after, with_byte, line_after, next_line, marked, reading, end_of, byte_of, feed_of, last_of, output_of};
 ghost use Rattle.page.specs.Page.{report_bytes};
 ghost use Rattle.report.specs.Step.{seen_fed, feed_step, seen_report, Counted, finish_step};
 
@@ -13,31 +13,15 @@ use base::Refusal;
 // The value of a line that no further byte makes fit.
 const UNFIT: u64 = base::MAX_ENTRY + 1;
 
-// What a reader has of a line: no byte yet; what its digits say, above the entry limit where the line is unfit; or that it is bad, after which all is skipped.
-#[derive(Clone, Copy, Debug, PartialEq, Eq)]
-pub enum Line {
-    Empty,
-    Value(u64),
-    Bad,
-}
-
-// Where a reader is: the number of the line that it reads, counted from 1, and what it has of it.
+// Where a reader is: the number of the line that it reads, counted from 1; whether the line has a byte; what its digits say, above the entry limit where
+// the line is unfit; and whether the line is bad, after which all is skipped.
+// Kept: four fields, and no enum for the line, since feed and finish promise their outcome for every value of the four (`Reading.with_byte`, `next_line`, `marked`, `end_of`).
 #[derive(Clone, Copy, Debug, PartialEq, Eq)]
 pub struct Reader {
     pub line: u64,
-    pub state: Line,
-}
-
-impl Line {
-    // What the digits say; 0 where there are none.
-    fn value(self) -> u64
-        ensures { result ≡ held self }
-    {
-        match self {
-            Line::Value(value) => value,
-            _ => 0,
-        }
-    }
+    pub any: bool,
+    pub value: u64,
+    pub bad: bool,
 }
 
 // What a line's digits say with one byte more; above the entry limit it stays, so that no sum wraps.
@@ -68,7 +52,19 @@ impl Reader {
     {
         Reader {
             line: 1,
-            state: Line::Empty,
+            any: false,
+            value: 0,
+            bad: false,
+        }
+    }
+
+    fn with_byte(self, byte: u8) -> Self
+        ensures { result ≡ with_byte byte self }
+    {
+        Reader {
+            any: true,
+            value: value_after(self.value, byte),
+            ..self
         }
     }
 
@@ -77,17 +73,16 @@ impl Reader {
     {
         Reader {
             line: line_after(self.line),
-            ..Reader::fresh()
+            any: false,
+            value: 0,
+            ..self
         }
     }
 
     fn marked(self) -> Self
         ensures { result ≡ marked self }
     {
-        Reader {
-            state: Line::Bad,
-            ..self
-        }
+        Reader { bad: true, ..self }
     }
 
     // A line ends: its entry is applied, or the line is bad.
@@ -96,13 +91,11 @@ impl Reader {
         requires { Sound book.old }
         ensures { reading result book.new ≡ end_of (reading self book.old) }
     {
-        match self.state {
-            Line::Value(entry) if entry <= base::MAX_ENTRY => {
-                hire_book::apply_fit(book, entry);
-                self.next_line()
-            }
-            _ => self.marked(),
+        if !self.any || base::MAX_ENTRY < self.value {
+            return self.marked();
         }
+        hire_book::apply_fit(book, self.value);
+        self.next_line()
     }
 
     // A byte of a line, or the line's end; after a bad line all is skipped.
@@ -111,13 +104,12 @@ impl Reader {
         requires { Sound book.old }
         ensures { reading result book.new ≡ byte_of byte (reading self book.old) }
     {
-        match self.state {
-            Line::Bad => self,
-            _ if byte == b'\n' => self.end_line(book),
-            state => Reader {
-                state: Line::Value(value_after(state.value(), byte)),
-                ..self
-            },
+        if self.bad {
+            self
+        } else if byte == b'\n' {
+            self.end_line(book)
+        } else {
+            self.with_byte(byte)
         }
     }
 
@@ -139,10 +131,10 @@ impl Reader {
         requires { Sound book.old }
         ensures { reading result book.new ≡ last_of (reading self book.old) }
     {
-        match self.state {
-            Line::Value(_) => self.end_line(book),
-            _ => self,
+        if self.any && !self.bad {
+            return self.end_line(book);
         }
+        self
     }
 
     #[tactic(auto, unfolding(crate::specs::Reading::output_of))]
@@ -151,9 +143,10 @@ impl Reader {
         requires report_bytes_in_bounds { report_bytes ≤ length out.old }
         ensures { Put out.old 0 (output_of (reading self book.now)) result out.new }
     {
-        match self.state {
-            Line::Bad => page::put_bad_line(out, self.line),
-            _ => page::put_page(out, book),
+        if self.bad {
+            page::put_bad_line(out, self.line)
+        } else {
+            page::put_page(out, book)
         }
     }
 }
