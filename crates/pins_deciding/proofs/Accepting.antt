@@ -6,10 +6,10 @@ use Rattle.accepting.proofs.handle_acceptdecide.Reads as handle-acceptdecide-rea
 use Rattle.accepting.proofs.handle_decide.Reads as handle-decide-reads
 
 pub handle-acceptsync : (κs : _) (a : _) → OneAnswer (handle-acceptsync-reads.Post κs a)
-handle-acceptsync κs a r₁ r₂ s₁ s₂ p q = p.0 ∙ sym q.0
+handle-acceptsync κs a r₁ r₂ s₁ s₂ p q = p ∙ sym q
 
 pub handle-acceptdecide : (κs : _) (a : _) → OneAnswer (handle-acceptdecide-reads.Post κs a)
-handle-acceptdecide κs a r₁ r₂ s₁ s₂ p q = p.0 ∙ sym q.0
+handle-acceptdecide κs a r₁ r₂ s₁ s₂ p q = p ∙ sym q
 
 pub handle-decide : (κs : _) (a : _) → OneAnswer (handle-decide-reads.Post κs a)
-handle-decide κs a r₁ r₂ s₁ s₂ p q = p.0 ∙ sym q.0
+handle-decide κs a r₁ r₂ s₁ s₂ p q = p ∙ sym q

@@ -10,22 +10,22 @@ use Rattle.leader.proofs.handle_notaccepted.Reads as handle-notaccepted-reads
 use Rattle.leader.proofs.resend_messages_leader.Reads as resend-messages-leader-reads
 
 pub handle-leader : (κs : _) (a : _) → OneAnswer (handle-leader-reads.Post κs a)
-handle-leader κs a r₁ r₂ s₁ s₂ p q = p.0 ∙ sym q.0
+handle-leader κs a r₁ r₂ s₁ s₂ p q = p ∙ sym q
 
 pub handle-preparereq : (κs : _) (a : _) → OneAnswer (handle-preparereq-reads.Post κs a)
-handle-preparereq κs a r₁ r₂ s₁ s₂ p q = p.0 ∙ sym q.0
+handle-preparereq κs a r₁ r₂ s₁ s₂ p q = p ∙ sym q
 
 pub handle-forwarded-proposal : (κs : _) (a : _) → OneAnswer (handle-forwarded-proposal-reads.Post κs a)
-handle-forwarded-proposal κs a r₁ r₂ s₁ s₂ p q = p.0 ∙ sym q.0
+handle-forwarded-proposal κs a r₁ r₂ s₁ s₂ p q = p ∙ sym q
 
 pub handle-promise : (κs : _) (a : _) → OneAnswer (handle-promise-reads.Post κs a)
-handle-promise κs a r₁ r₂ s₁ s₂ p q = p.0 ∙ sym q.0
+handle-promise κs a r₁ r₂ s₁ s₂ p q = p ∙ sym q
 
 pub handle-accepted : (κs : _) (a : _) → OneAnswer (handle-accepted-reads.Post κs a)
-handle-accepted κs a r₁ r₂ s₁ s₂ p q = p.0 ∙ sym q.0
+handle-accepted κs a r₁ r₂ s₁ s₂ p q = p ∙ sym q
 
 pub handle-notaccepted : (κs : _) (a : _) → OneAnswer (handle-notaccepted-reads.Post κs a)
-handle-notaccepted κs a r₁ r₂ s₁ s₂ p q = p.0 ∙ sym q.0
+handle-notaccepted κs a r₁ r₂ s₁ s₂ p q = p ∙ sym q
 
 pub resend-messages-leader : (κs : _) (a : _) → OneAnswer (resend-messages-leader-reads.Post κs a)
-resend-messages-leader κs a r₁ r₂ s₁ s₂ p q = p.0 ∙ sym q.0
+resend-messages-leader κs a r₁ r₂ s₁ s₂ p q = p ∙ sym q
