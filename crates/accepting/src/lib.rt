@@ -36,6 +36,7 @@ fn check_valid_ballot(s: &mut Bounded, n: Ballot) -> bool
     false
 }
 
+// Kept, here and in `reply_accepted`: ballot and index one by one, since with an Accepted passed whole the proof did not close.
 #[tactic(auto, unfolding(crate::specs::Accepting::send_accepted))]
 fn push_accepted(s: Bounded, n: Ballot, accepted_idx: usize, to: u64) -> Bounded
     ensures { result ≡ send_accepted n accepted_idx to s }

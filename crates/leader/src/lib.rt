@@ -68,6 +68,7 @@ fn become_follower(s: Bounded) -> Bounded
 pub fn handle_leader(s: Bounded, n: Ballot) -> Bounded
     ensures { result ≡ handle_leader n s }
 {
+    // Kept as two tests: joined by `||` the proof did not close.
     if n <= s.inner.leader_state.n_leader {
         return s;
     }
