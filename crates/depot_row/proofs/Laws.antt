@@ -1,5 +1,5 @@
 -- How the parts of a step come together: the book made again, the entries newly decided, and the one equation that the whole step promises.
-use Prim.Native.Nat.{ℕ, ◌+◌, ◌-◌, ◌≤◌, ◌<◌}
+use Prim.Native.Nat.{ℕ, ◌+◌, ◌-◌, ◌<◌}
 use mathlib.Core.Path.{◌≡◌, refl, ap, sym, ◌∙◌}
 use mathlib.Core.Bool.{Bool, true, false}
 use mathlib.Core.List.{List, []}
@@ -8,26 +8,32 @@ use lib.Dec.{eqb}
 use native.Mathlib.Decide.{dec_lt}
 use lib.ListN.{length, take}
 use borrow.Author.Tests.{eq-eqb, ne_eqb, eqb-true, eqb-false}
+use Rattle.base.specs.declared.Refusal.{Refusal}
+use Rattle.base.specs.declared.Refusal.TheVariants.{WrongCall, Broken, Stranger, Unfit, LogFull, QueueFull, AtTop, BufferFull}
+use Rattle.base.specs.Refusal.{number_of}
+use Rattle.depot_row.specs.Decided.{Decided}
+use Rattle.sequence_paxos.specs.Decide as decide
+use Rattle.sequence_paxos.specs.Decide.{decide_of}
+use Rattle.step_laws.proofs.Fits.{writable}
+use Rattle.std.specs.Prelude.{Result, Ok, Err}
 use Rattle.quorum.specs.declared.Configuration.{Configuration}
 use Rattle.messages.specs.declared.Event.{Event}
 use Rattle.messages.specs.declared.Row.{Row}
 use Rattle.paxos_box.specs.declared.SequencePaxos.{SequencePaxos}
-use Rattle.outcome.specs.Outcome.{Decision, outcome_refusal, settled}
+use Rattle.outcome.specs.Outcome.{Decision, as_decision, outcome_refusal, settled}
 use Rattle.record.specs.declared.Record.{Record}
 use Rattle.record.specs.Record.{store_of}
-use Rattle.hire_book.specs.Book.{book_length, fresh_book, apply_all, any_above}
+use Rattle.hire_book.specs.Book.{book_length, fresh_book, any_above}
 use Rattle.hire_book.specs.Step as book
 use Rattle.hire_book.proofs.Entries.{none_above, within-part}
 use Rattle.refusals.proofs.Says.{first-fit}
-use Rattle.broken.specs.Lent.{Lent, lent}
+use Rattle.broken.specs.Lent.{lent}
 use Rattle.refusals.specs.Refusals.{refusal_of}
-use Rattle.refusals.proofs.Taken.{Taken}
 use Rattle.refusals.proofs.Sound.{taken}
 use Rattle.storage.specs.Storage.{log_after, cached_after, best_after, buffer_after}
 use Rattle.outgoing.specs.Queue as queue
 use Rattle.outgoing.specs.Perform.{sources, performed}
-use Rattle.step.specs.declared.Step.{Step}
-use Rattle.step.specs.Step.{World, Outcome, world, seen, decision_of, log_of, cached_of, best_of, buffer_of, queue_of, waiting, handed_out, newly_decided, book_after, perform_of, taken_to, concluded, step_of}
+use Rattle.step.specs.Step.{World, Outcome, world, seen, box_of, refused_with, decision_of, log_of, cached_of, best_of, buffer_of, queue_of, waiting, handed_out, newly_decided, book_after, perform_of, taken_to, concluded, step_of}
 
 -- a book of the right length is fresh again
 fresh-again : (found : List ℕ) → length found ≡ book_length → book.fresh_step found ≡ book.seen 0 fresh_book
@@ -36,11 +42,6 @@ fresh-again found h = rw (eq-eqb (length found) book_length h)
 
 pub made-fresh : (found left : List ℕ) (n : ℕ) → length found ≡ book_length → book.seen n left ≡ book.fresh_step found → left ≡ fresh_book
 made-fresh found left n h e = ap (λ (s : book.Seen). s.book) (e ∙ fresh-again found h)
-
--- nothing is newly decided where the decided index does not rise
-pub none-newly : (old new : ℕ) (log found : List ℕ) → new ≤ old → found ≡ apply_all (newly_decided old new log) found
-unfolding apply_all
-none-newly old new log found h = let z : new - old ≡ 0 = omega arith in rw z
 
 -- the entries newly decided are some of those decided
 pub newly-fit : (old new : ℕ) (log : List ℕ) → any_above (take new log) ≡ false → any_above (newly_decided old new log) ≡ false
@@ -68,10 +69,6 @@ module _ (e : Event) (entries : List ℕ) (s : SequencePaxos) (r : Record) (row 
       let y : store₁ ≡ (performed (sources log₁ entries r.buffered_proposals.entries cached₁) s.plan.sends r.outgoing (queue.lent row store)).store = ap (λ (w : queue.Lent). w.store) q in
       rw (n, o, k, x, y, b, c, l)
 
--- none of the refusals that come before deciding was given
-pub passed : (c : Configuration) (r : Record) (row : Row) (l : Lent) (e : Event) (entries : List ℕ) (n : ℕ) → n ≡ refusal_of c r row l e entries → n ≡ 0 → Taken c r row l e entries
-passed c r row l e entries n p z = taken c r row l e entries (sym p ∙ z)
-
 -- a decision that gives no refusal is the step as it would be, and nothing refuses that
 pub decided-taken : (found s : SequencePaxos) (d : Decision) → d ≡ settled found s → d.no ≡ 0 → (outcome_refusal s ≡ 0) × (d.node ≡ s)
 unfolding settled
@@ -83,16 +80,29 @@ decided-taken found s d p z = go (eqb (outcome_refusal s) 0) refl
         let q : d.no ≡ outcome_refusal s = ap (λ (x : Decision). x.no) (rw e at p) in
         absurd (eqb-false (outcome_refusal s) 0 e (sym q ∙ z))
 
+refusal-number : (refusal : Refusal) → number_of refusal ≡ 0 → ⊥
+refusal-number WrongCall e = absurd (omega arith)
+refusal-number Broken e = absurd (omega arith)
+refusal-number Stranger e = absurd (omega arith)
+refusal-number Unfit e = absurd (omega arith)
+refusal-number LogFull e = absurd (omega arith)
+refusal-number QueueFull e = absurd (omega arith)
+refusal-number AtTop e = absurd (omega arith)
+refusal-number BufferFull e = absurd (omega arith)
+
 -- the three ways of a step
 module _ (c : Configuration) (e : Event) (entries : List ℕ) (w : World) where
-  pub refused-first : (n : ℕ) (x : Step) → n ≡ refusal_of c w.node w.row w.lists e entries → (n ≡ 0 → ⊥) → x ≡ record { answer = record { no = n; dropped = 0; handed_out = 0 }; node = w.node; row = w.row } → seen x w.lists ≡ step_of c e entries w
+  pub refused-first : (refusal : Refusal) → number_of refusal ≡ refusal_of c w.node w.row w.lists e entries → step_of c e entries w ≡ refused_with (number_of refusal) w
   unfolding step_of
-  refused-first n x r h p = rw (p, ← r, ne_eqb n 0 h)
+  refused-first refusal r = rw (← r, ne_eqb (number_of refusal) 0 (refusal-number refusal))
 
-  pub refused-late : (n : ℕ) (d : Decision) (x : Step) → n ≡ refusal_of c w.node w.row w.lists e entries → n ≡ 0 → d ≡ decision_of c e entries w → (d.no ≡ 0 → ⊥) → x ≡ record { answer = record { no = d.no; dropped = 0; handed_out = 0 }; node = w.node; row = w.row } → seen x w.lists ≡ step_of c e entries w
-  unfolding step_of concluded
-  refused-late n d x r z q h p = rw (p, ← r, eq-eqb n 0 z, ← q, ne_eqb d.no 0 h)
+  abbrev pub box : SequencePaxos
+  box = box_of c e entries w.node w.row w.lists.log w.lists.best
 
-  pub taken-last : (n : ℕ) (d : Decision) (o : Outcome) → n ≡ refusal_of c w.node w.row w.lists e entries → n ≡ 0 → d ≡ decision_of c e entries w → d.no ≡ 0 → o ≡ taken_to e entries d.node w → o ≡ step_of c e entries w
-  unfolding step_of concluded
-  taken-last n d o r z q h p = rw (p, ← r, eq-eqb n 0 z, ← q, eq-eqb d.no 0 h)
+  pub decided : (result : Result SequencePaxos Refusal) → 0 ≡ refusal_of c w.node w.row w.lists e entries → as_decision box result ≡ decide_of e (length entries) box → Decided c e entries w result
+  unfolding step_of concluded decision_of
+  decided (Ok s) z d =
+      let f = decided-taken box (decide.taken e (length entries) box) (record { no = 0; node = s }) d refl in
+      let t = taken c w.node w.row w.lists e entries (sym z) in
+      (rw f.1 (writable c e entries w t f.0), rw (← z, ← d))
+  decided (Err refusal) z d = rw (← z, ← d, ne_eqb (number_of refusal) 0 (refusal-number refusal))

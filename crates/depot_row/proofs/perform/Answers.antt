@@ -4,7 +4,7 @@ use Rattle.depot_row.proofs.Laws.{newly-fit, finish}
 use Rattle.depot_row.proofs.perform.Goals as goal
 
 pub returns : goal.returns
-returns c = finish c.args.e c.args.entries.now c.args.s c.args.r c.args.row c.args.log.now c.args.cached.now c.args.best.now c.args.store.now c.args.book.now _ _ _ _ _ _ _ _ c.write_lists.ensures.log_after c.write_lists.ensures.cached_after c.write_lists.ensures.best_after c.perform-queue.ensures c.keep_book.ensures c.handed_out.ensures c.store_record-node.ensures
+returns c = finish c.args.e c.args.entries.now c.args.s c.args.r c.args.row c.args.log.now c.args.cached.now c.args.best.now c.args.store.now c.args.book.now _ _ _ _ _ _ _ _ c.write_lists.ensures.log_after c.write_lists.ensures.cached_after c.write_lists.ensures.best_after c.perform-queue.ensures c.keep_book.ensures c.handed_out.ensures c.store_record.ensures
 
 pub keep_book-requires-clause-log_value : goal.keep_book-requires-clause-log_value
 unfolding log_of

@@ -1,0 +1,2 @@
+-- The definitions of `depot_row`.
+pub mod Decided
