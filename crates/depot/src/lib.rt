@@ -7,7 +7,7 @@ ghost use Rattle.outgoing.specs.Packing.{row_of};
 ghost use Rattle.step.specs.Step.{world, seen};
 ghost use Rattle.depot.specs.Heads.{step_sized, step_heads, seen_heads};
 
-use base::MAX_MESSAGES;
+use base::{MAX_MESSAGES, Refusal};
 use messages::{Event, Head, Row};
 use quorum::Configuration;
 use record::Record;
@@ -37,32 +37,9 @@ fn step_sized(
     ensures { seen result (lent log.new cached.new best.new store.new book.new) ≡ step_sized n c e entries.now (world r row (lent log.old cached.old best.old store.old book.old)) }
 {
     if n != MAX_MESSAGES {
-        let answer = Answer {
-            no: 1,
-            dropped: 0,
-            handed_out: 0,
-        };
-        return Step {
-            answer,
-            node: r,
-            row,
-        };
+        return Step::refused(Refusal::WrongCall, r, row);
     }
     depot_row::step_row(c, r, row, log, cached, best, store, book, e, entries)
-}
-
-fn row_of(s: Step) -> Row
-    ensures { result ≡ s.row }
-{
-    s.row
-}
-
-fn stepped_of(s: Step) -> Stepped
-    ensures { result ≡ record { answer = s.answer; node = s.node } }
-{
-    let answer = s.answer;
-    let node = s.node;
-    Stepped { answer, node }
 }
 
 // A step of a depot's box. The record goes in and comes back; the row of heads, the log, the two sync buffers, the entry store and the book are lent; `entries` come
@@ -84,6 +61,9 @@ pub fn step(
     let row = lent_heads::snapshot(heads);
     let n = heads.len();
     let s = step_sized(c, r, row, n, log, cached, best, store, book, e, entries);
-    lent_heads::apply(heads, row_of(s));
-    stepped_of(s)
+    lent_heads::apply(heads, s.row);
+    Stepped {
+        answer: s.answer,
+        node: s.node,
+    }
 }

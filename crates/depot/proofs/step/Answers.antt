@@ -20,5 +20,5 @@ returns c =
     c.step_sized-s.ensures ∙ ap (λ (row : Row). step_sized (length hs) c.args.c c.args.e es (world c.args.r row l)) c.snapshot-row.ensures in
     let n : length s.row.heads ≡ max_messages = search (rules, length-mapped) in
     let k = ap (λ (o : Outcome). length o.after.row.heads) (sym on-snapshot) ∙ n in
-    rw (c.stepped_of.ensures, c.apply.ensures, c.row_of.ensures)
+    rw c.apply.ensures
     (ap (written_back hs) on-snapshot ∙ heads-stepped c.args.c c.args.e es c.args.r hs l k)
