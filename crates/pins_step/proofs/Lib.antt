@@ -1,4 +1,5 @@
 -- Written by tools/pins --write. One outcome: what is written, and the whole step.
+pub mod Step
 pub mod Storage
 pub mod Outgoing
 pub mod LentHeads
