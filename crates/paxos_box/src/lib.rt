@@ -37,7 +37,7 @@ pub struct State {
 }
 
 // What outlives a restart, the log by its length, `accepted_idx`.
-#[derive(Clone, Copy)]
+#[derive(Clone, Copy, Debug, PartialEq, Eq)]
 pub struct InternalStorage {
     pub promise: Ballot,
     pub accepted_round: Ballot,
@@ -53,7 +53,7 @@ pub struct Outgoing {
 }
 
 // The last Promise sent, for a resend; its sync's entries lie in a lent buffer.
-#[derive(Clone, Copy)]
+#[derive(Clone, Copy, Debug, PartialEq, Eq)]
 pub struct CachedPromise {
     pub n: Ballot,
     pub n_accepted: Ballot,
@@ -63,7 +63,7 @@ pub struct CachedPromise {
 }
 
 // Where an Accepted that still waits stands in the queue, and of which ballot it is.
-#[derive(Clone, Copy)]
+#[derive(Clone, Copy, Debug, PartialEq, Eq)]
 pub struct AcceptedAt {
     pub n: Ballot,
     pub at: usize,
@@ -152,6 +152,7 @@ pub struct Sight {
 }
 
 // What a step will do, and whether it must be refused: with 4 (`unfit`) or 7 (`top`).
+// Kept: two flags with no value of their own, since `outcome_refusal` and the table's order (4 before 7) read both.
 #[derive(Clone, Copy)]
 pub struct Plan {
     pub sends: Sends,

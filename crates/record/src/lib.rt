@@ -17,14 +17,14 @@ use sequence::SequenceNumber;
 
 // The buffered proposals: the first `len` of them wait.
 // Kept: a buffer with its length beside it, since nothing is on the heap and `cell_laws` says that the cells past the length keep what they held; C reads them all (docs/LAYOUT.md).
-#[derive(Clone, Copy)]
+#[derive(Clone, Copy, Debug, PartialEq, Eq)]
 pub struct Buffered {
     pub entries: [u64; MAX_BUFFERED],
     pub len: usize,
 }
 
 // `outgoing` is how many messages of the row wait. The log, the two sync buffers, the store and the book are lent beside it.
-#[derive(Clone, Copy)]
+#[derive(Clone, Copy, Debug, PartialEq, Eq)]
 pub struct Record {
     pub internal_storage: InternalStorage,
     pub state: State,

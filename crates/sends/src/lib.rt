@@ -45,6 +45,7 @@ pub fn check_log_sync(s: Bounded, from: usize) -> Bounded
     }
 }
 
+// Kept: beside next_seq_num, from which it differs in the field read and in the call made; one function for both would take two closures and be longer.
 #[tactic(auto, unfolding(crate::specs::Sends::next_session_of))]
 fn increment_seq_num_session(s: Bounded, to: u64) -> Bounded
     requires { own_place to }
