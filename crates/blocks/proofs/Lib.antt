@@ -2,3 +2,4 @@
 pub mod Blocks
 pub mod Mapped
 pub mod Filled
+pub mod Any

@@ -43,16 +43,10 @@ fn over_most(most: u64, w: u64) -> bool
 }
 
 // Whether some word is above its most.
-#[tactic(auto, unfolding(hire_book::specs::Below::any_below, crate::specs::Blocks::above_most))]
 pub fn above_most(b: Block, most: Block) -> bool
     ensures { result ≡ above_most most b }
 {
-    for k in 0..WORDS {
-        if over_most(most[k], b[k]) {
-            return true;
-        }
-    }
-    false
+    b.iter().zip(most.iter()).any(|(w, m)| over_most(*m, *w))
 }
 
 // A word of 32 bits; a larger one, which no block that means something has, is read as 0.

@@ -369,16 +369,10 @@ fn record_most(i: usize) -> Block
 }
 
 // Whether the words mean no record: one of them is above its most.
-#[tactic(auto, unfolding(hire_book::specs::Below::any_below, crate::specs::Reading::no_record))]
 fn no_record(words: &[u64]) -> bool
     ensures { result ≡ no_record words.now }
 {
-    for i in 0..BLOCKS {
-        if blocks::above_most(blocks::block(words, i), record_most(i)) {
-            return true;
-        }
-    }
-    false
+    (0..BLOCKS).any(|i| blocks::above_most(blocks::block(words, i), record_most(i)))
 }
 
 // A record whose decided index is above its log's length.

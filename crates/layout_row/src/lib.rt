@@ -286,17 +286,10 @@ fn head_most() -> Block
 }
 
 // Whether the words mean no row: some block of them means no head.
-#[tactic(auto, unfolding(hire_book::specs::Below::any_below, crate::specs::Row::no_row))]
 pub fn no_row(words: &[u64]) -> bool
     ensures { result ≡ no_row words.now }
 {
-    let most = head_most();
-    for i in 0..MAX_MESSAGES {
-        if blocks::above_most(blocks::block(words, i), most) {
-            return true;
-        }
-    }
-    false
+    (0..MAX_MESSAGES).any(|i| blocks::above_most(blocks::block(words, i), head_most()))
 }
 
 // The row of words that mean one.
