@@ -403,6 +403,7 @@ pub fn read_record(words: &[u64]) -> Record
 }
 
 // The places into their blocks.
+// Kept: beside `write_row`'s loop, its like: a helper of both would take a closure and promise what it gives of each element (`places_kept`), which is longer than two loops of a line.
 fn put_places(words: &mut [u64], l: LeaderState)
     requires { length words.old ≡ record_length }
     ensures words_after { words.new ≡ put_at places_at (joined (map place_words l.depots)) words.old }

@@ -58,6 +58,7 @@ const MAJORITY: u64 = 0;
 const FLEXIBLE: u64 = 1;
 
 // A message as its kind and every field that some kind has; a field that the kind has not is 0.
+// Kept: a kind and a flag in numbers, as C's words have them: `message_of` reads every number, also one above the most.
 #[derive(Clone, Copy)]
 pub struct Fields {
     pub kind: u64,

@@ -36,6 +36,7 @@ pub fn promise_meta(p: PromiseState) -> PromiseMetaData
 }
 
 // The variant that a tag and what it holds mean. A tag above its most, which no block that means something has, is read as the last.
+// Kept: functions and no From: a From would stand with the types, in crates that know nothing of words, and the last variant is no number's own.
 
 pub fn option_of<T: Copy>(tag: u64, x: T) -> Option<T>
     ensures { result ≡ option_of tag x }
