@@ -70,10 +70,7 @@ fn no_head() -> Head
 fn head_in(row: Row, at: usize) -> Head
     ensures { result ≡ head_in at row }
 {
-    if at < MAX_MESSAGES {
-        return row.heads[at];
-    }
-    no_head()
+    row.heads.get(at).copied().unwrap_or(no_head())
 }
 
 impl Site {
@@ -81,65 +78,43 @@ impl Site {
     pub fn fresh(config: Configuration) -> Site
         ensures { result ≡ fresh_site config }
     {
-        let node = Record::fresh();
-        let none = no_head();
-        let row = Row {
-            heads: [none; MAX_MESSAGES],
-        };
-        let log = [0u64; MAX_LOG];
-        let cached = [0u64; MAX_LOG];
-        let best = [0u64; MAX_LOG];
-        let store = [0u64; MAX_STORE];
-        let book = [0u64; BOOK];
         Site {
+            log: [0; MAX_LOG],
+            cached: [0; MAX_LOG],
+            best: [0; MAX_LOG],
+            store: [0; MAX_STORE],
+            book: [0; BOOK],
             config,
-            node,
-            row,
-            log,
-            cached,
-            best,
-            store,
-            book,
+            node: Record::fresh(),
+            row: Row {
+                heads: [no_head(); MAX_MESSAGES],
+            },
         }
     }
 
     // One step of the depot.
     #[tactic(auto, unfolding(crate::specs::Cluster::step_site))]
-    pub fn step(self, e: Event, entries: &[u64]) -> Stepped
+    pub fn step(mut self, e: Event, entries: &[u64]) -> Stepped
         ensures { result ≡ step_site e entries.now self }
     {
-        let config = self.config;
-        let mut log = self.log;
-        let mut cached = self.cached;
-        let mut best = self.best;
-        let mut store = self.store;
-        let mut book = self.book;
         let x = own_row::step(
-            config,
+            self.config,
             self.node,
             self.row,
-            &mut log,
-            &mut cached,
-            &mut best,
-            &mut store,
-            &mut book,
+            &mut self.log,
+            &mut self.cached,
+            &mut self.best,
+            &mut self.store,
+            &mut self.book,
             e,
             entries,
         );
-        let answer = x.answer;
-        let node = x.node;
-        let row = x.row;
-        let site = Site {
-            config,
-            node,
-            row,
-            log,
-            cached,
-            best,
-            store,
-            book,
-        };
-        Stepped { answer, site }
+        self.node = x.node;
+        self.row = x.row;
+        Stepped {
+            answer: x.answer,
+            site: self,
+        }
     }
 
     // The head at a place of the row; past its end, none.
@@ -154,17 +129,11 @@ impl Site {
     pub fn receive(self, from: Site, head: Head) -> Stepped
         ensures { result ≡ receive_site from head self }
     {
-        let sender = from.config;
-        let msg = head.msg;
         let e = Event::Message(PaxosMessage {
-            from: sender.pid,
-            msg,
+            from: from.config.pid,
+            msg: head.msg,
         });
-        let store = from.store;
-        let start = head.start;
-        let count = head.count;
-        let entries = storage::part(&store, start, count);
-        self.step(e, entries)
+        self.step(e, storage::part(&from.store, head.start, head.count))
     }
 }
 
@@ -173,13 +142,11 @@ fn place(pid: u64) -> usize
     ensures value { result ≡ place_of pid }
     ensures upper_bound { result < 3 }
 {
-    if pid == 2 {
-        return 1;
+    match pid {
+        2 => 1,
+        3 => 2,
+        _ => 0,
     }
-    if pid == 3 {
-        return 2;
-    }
-    0
 }
 
 impl Cluster {
@@ -187,26 +154,25 @@ impl Cluster {
     pub fn fresh() -> Cluster
         ensures { result ≡ record { sites = fresh_site (majority 3 1) ∷ fresh_site (majority 3 2) ∷ fresh_site (majority 3 3) ∷ [] } }
     {
-        let first = Site::fresh(majority(3, 1));
-        let second = Site::fresh(majority(3, 2));
-        let third = Site::fresh(majority(3, 3));
         Cluster {
-            sites: [first, second, third],
+            sites: [
+                Site::fresh(majority(3, 1)),
+                Site::fresh(majority(3, 2)),
+                Site::fresh(majority(3, 3)),
+            ],
         }
     }
 
     pub fn site(self, pid: u64) -> Site
         ensures { result ≡ site_at pid self }
     {
-        let i = place(pid);
-        self.sites[i]
+        self.sites[place(pid)]
     }
 
     pub fn with_site(mut self, pid: u64, site: Site) -> Cluster
         ensures { result ≡ with_site pid site self }
     {
-        let i = place(pid);
-        self.sites[i] = site;
+        self.sites[place(pid)] = site;
         self
     }
 
@@ -215,18 +181,17 @@ impl Cluster {
     pub fn step(self, pid: u64, e: Event, entries: &[u64]) -> Moved
         ensures { result ≡ step_at pid e entries.now self }
     {
-        let s = self.site(pid);
-        let x = s.step(e, entries);
-        self.moved(pid, x)
+        self.moved(pid, self.site(pid).step(e, entries))
     }
 
     // A depot after its step.
     fn moved(self, pid: u64, x: Stepped) -> Moved
         ensures { result ≡ moved_to pid x self }
     {
-        let answer = x.answer;
-        let cluster = self.with_site(pid, x.site);
-        Moved { answer, cluster }
+        Moved {
+            answer: x.answer,
+            cluster: self.with_site(pid, x.site),
+        }
     }
 
     // A message of a depot arrives at its receiver.
@@ -234,9 +199,7 @@ impl Cluster {
     fn carry(self, from: Site, head: Head) -> Moved
         ensures { result ≡ carried from head self }
     {
-        let receiver = self.site(head.to);
-        let x = receiver.receive(from, head);
-        self.moved(head.to, x)
+        self.moved(head.to, self.site(head.to).receive(from, head))
     }
 
     // The message at a place of a depot's row arrives at its receiver.
@@ -245,8 +208,7 @@ impl Cluster {
         ensures { result ≡ deliver_at from at self }
     {
         let sender = self.site(from);
-        let head = sender.head(at);
-        self.carry(sender, head)
+        self.carry(sender, sender.head(at))
     }
 }
 
@@ -254,15 +216,5 @@ impl Cluster {
 pub fn same(a: &[u64], b: &[u64]) -> bool
     ensures { (result ≡ true → a.now ≡ b.now) × (a.now ≡ b.now → result ≡ true) }
 {
-    if a.len() != b.len() {
-        return false;
-    }
-    let mut i: usize = 0;
-    while i < a.len() {
-        if a[i] != b[i] {
-            return false;
-        }
-        i += 1;
-    }
-    true
+    a == b
 }

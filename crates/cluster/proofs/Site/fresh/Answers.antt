@@ -2,4 +2,4 @@
 use Rattle.cluster.proofs.Site.fresh.Goals as goal
 
 pub returns : goal.returns
-returns c = rw (c.no_head-none.ensures, c.fresh-node.ensures)
+returns c = rw (c.no_head.ensures, c.fresh.ensures)
