@@ -4,41 +4,31 @@
 ghost use Rattle.std.specs.Prelude.{◌≡◌};
 ghost use Rattle.hire_book.specs.Step.{total_step};
 ghost use Rattle.cluster.specs.Cluster.{step_at};
-ghost use Rattle.rounds.specs.Drains.{carry_at, drained, waits_at, next_sender, settled};
+ghost use Rattle.rounds.specs.Drains.{is_lost, carry_at, drained, waits_at, next_sender, settled};
 
 use cluster::{Cluster, Site};
 use messages::{Event, Head};
 use std::io;
-use telling::{say, say_answer, say_ballot, say_entries, say_message, say_number, say_state};
+use telling::{Told, say, say_answer, say_entries};
 
 // A message of a depot's row, with its entries.
 pub fn say_head(rt: &impl Print, from: Site, head: Head) -> io::Result<()> {
-    let c = from.config;
-    say_number(rt, b"  ", c.pid)?;
-    say_number(rt, b" to ", head.to)?;
-    say(rt, b": ")?;
-    let msg = head.msg;
-    say_message(rt, msg)?;
-    let store = from.store;
-    let start = head.start;
-    let count = head.count;
-    say_entries(rt, storage::part(&store, start, count))
-}
-
-// The first of two tellings that failed.
-fn first_failed(a: io::Result<()>, b: io::Result<()>) -> io::Result<()> {
-    match a {
-        Ok(()) => b,
-        Err(e) => Err(e),
-    }
+    let entries = storage::part(&from.store, head.start, head.count);
+    print!(rt;
+        "  {} to {}: {}{}",
+        from.config.pid,
+        head.to,
+        Told(head.msg),
+        Told(entries)
+    )
 }
 
 fn say_act(rt: &impl Print, pid: u64, what: &[u8], entries: &[u64], no: u32) -> io::Result<()> {
-    say_number(rt, b"depot ", pid)?;
+    print!(rt; "depot {pid}")?;
     say(rt, what)?;
     say_entries(rt, entries)?;
     say_answer(rt, no)?;
-    say(rt, b"\n")
+    println!(rt; "")
 }
 
 // One step of a depot, told in words. It is taken whether or not the words could be written.
@@ -53,118 +43,100 @@ pub fn act(
     ensures { c.new ≡ (step_at pid e entries.now c.old).cluster }
 {
     let m = c.step(pid, e, entries);
-    let answer = m.answer;
     *c = m.cluster;
-    say_act(rt, pid, what, entries, answer.no)
+    say_act(rt, pid, what, entries, m.answer.no)
 }
 
 fn say_lost(rt: &impl Print, sender: Site, head: Head) -> io::Result<()> {
     say_head(rt, sender, head)?;
-    say(rt, b": LOST\n")
+    println!(rt; ": LOST")
 }
 
 fn say_brought(rt: &impl Print, sender: Site, head: Head, no: u32) -> io::Result<()> {
     say_head(rt, sender, head)?;
     say_answer(rt, no)?;
-    say(rt, b"\n")
+    println!(rt; "")
+}
+
+// Whether a message to a depot is lost: the lost ones go to one depot or, where none is to be lost, to pid 0, which is nobody's.
+fn is_lost(lost: Option<u64>, to: u64) -> bool
+    ensures { result ≡ is_lost lost to }
+{
+    to == lost.unwrap_or(0)
 }
 
 // The message at a place of a depot's row arrives, or is lost where it goes to the depot `lost`.
-fn carry(rt: &impl Print, c: &mut Cluster, from: u64, at: usize, lost: u64) -> io::Result<()>
+#[tactic(auto, unfolding(crate::specs::Drains::carry_at))]
+fn carry(
+    rt: &impl Print,
+    c: &mut Cluster,
+    from: u64,
+    at: usize,
+    lost: Option<u64>,
+) -> io::Result<()>
     ensures { c.new ≡ carry_at from lost at c.old }
 {
     let sender = c.site(from);
     let head = sender.head(at);
-    if head.to == lost {
+    if is_lost(lost, head.to) {
         return say_lost(rt, sender, head);
     }
     let m = c.deliver(from, at);
-    let answer = m.answer;
     *c = m.cluster;
-    say_brought(rt, sender, head, answer.no)
+    say_brought(rt, sender, head, m.answer.no)
 }
 
-// A depot's queue is drained, and each message arrives in order, but those to the depot `lost` (0: none is lost). What cannot be written stops nothing: the first
+// A depot's queue is drained, and each message arrives in order, but those to the depot `lost`, if one is named. What cannot be written stops nothing: the first
 // failure is answered at the end.
-pub fn drain(rt: &impl Print, c: &mut Cluster, from: u64, lost: u64) -> io::Result<()>
+#[tactic(auto, unfolding(crate::specs::Drains::carry_below, crate::specs::Drains::drained))]
+pub fn drain(rt: &impl Print, c: &mut Cluster, from: u64, lost: Option<u64>) -> io::Result<()>
     ensures { c.new ≡ drained from lost c.old }
 {
-    let none = [0u64; 0];
-    let m = c.step(from, Event::Drain, &none);
-    let answer = m.answer;
-    let count = answer.handed_out;
+    let m = c.step(from, Event::Drain, &[]);
     *c = m.cluster;
-    let mut told: io::Result<()> = Ok(());
-    let mut at: usize = 0;
-    while at < count {
-        let one = carry(rt, c, from, at, lost);
-        told = first_failed(told, one);
-        at += 1;
+    let mut told = Ok(());
+    for at in 0..m.answer.handed_out {
+        told = told.and(carry(rt, c, from, at, lost));
     }
     told
 }
 
-// How many messages wait in a depot's queue.
-fn queued(s: Site) -> usize
-    ensures { result ≡ s.node.outgoing }
-{
-    let node = s.node;
-    node.outgoing
-}
-
 // The messages that wait in a depot's queue.
 pub fn say_queue(rt: &impl Print, s: Site) -> io::Result<()> {
-    let c = s.config;
-    say_number(rt, b"waiting at depot ", c.pid)?;
-    say(rt, b":\n")?;
-    let count = queued(s);
-    let mut at: usize = 0;
-    while at < count {
+    println!(rt; "waiting at depot {}:", s.config.pid)?;
+    for at in 0..s.node.outgoing {
         say_head(rt, s, s.head(at))?;
-        say(rt, b"\n")?;
-        at += 1;
+        println!(rt; "")?;
     }
     Ok(())
 }
 
 #[tactic(auto, unfolding(crate::specs::Drains::waits_at))]
-fn waits(c: Cluster, pid: u64) -> bool
-    ensures { result ≡ waits_at pid c }
+fn waits(c: &Cluster, pid: u64) -> bool
+    ensures { result ≡ waits_at pid c.now }
 {
-    queued(c.site(pid)) != 0
+    c.site(pid).node.outgoing != 0
 }
 
-// The first depot whose queue is not empty; 0 where none is.
+// The first depot whose queue is not empty.
 #[tactic(auto, unfolding(crate::specs::Drains::next_sender))]
-fn next_sender(c: Cluster) -> u64
-    ensures { result ≡ next_sender c }
+fn next_sender(c: &Cluster) -> Option<u64>
+    ensures { result ≡ next_sender c.now }
 {
-    if waits(c, 1) {
-        return 1;
-    }
-    if waits(c, 2) {
-        return 2;
-    }
-    if waits(c, 3) {
-        return 3;
-    }
-    0
+    (1..=3).find(|pid| waits(c, *pid))
 }
 
 // Queues are drained and messages arrive until all queues are empty, or so many drains were made; as in `drain`, what cannot be written stops nothing.
+#[tactic(auto, unfolding(crate::specs::Drains::settled))]
 pub fn settle(rt: &impl Print, c: &mut Cluster, drains: u64) -> io::Result<()>
     ensures { c.new ≡ settled drains c.old }
 {
-    let mut told: io::Result<()> = Ok(());
-    let mut left = drains;
-    while left > 0 {
-        let from = next_sender(*c);
-        if from == 0 {
+    let mut told = Ok(());
+    for _ in 0..drains {
+        let Some(from) = next_sender(c) else {
             return told;
-        }
-        let one = drain(rt, c, from, 0);
-        told = first_failed(told, one);
-        left -= 1;
+        };
+        told = told.and(drain(rt, c, from, None));
     }
     told
 }
@@ -177,37 +149,27 @@ pub fn total_of(book: [u64; hire_book::BOOK]) -> u64
 }
 
 // A line of the table: what a depot promised and holds.
-fn say_site(rt: &impl Print, s: Site) -> io::Result<()> {
-    let c = s.config;
-    let node = s.node;
-    let kept = node.internal_storage;
-    say_number(rt, b"depot ", c.pid)?;
-    say(rt, b": ")?;
-    say_state(rt, node.state)?;
-    say_ballot(rt, b", promise ", kept.promise)?;
-    say_number(rt, b", log ", kept.accepted_idx as u64)?;
-    say_number(rt, b", decided ", kept.decided_idx as u64)?;
-    let book = s.book;
-    say_number(rt, b", days ", total_of(book))?;
-    say(rt, b"\n")
-}
-
-fn same_books(a: Site, b: Site) -> bool {
-    let first = a.book;
-    let second = b.book;
-    cluster::same(&first, &second)
+fn say_site(rt: &impl Print, s: &Site) -> io::Result<()> {
+    let kept = s.node.internal_storage;
+    println!(rt;
+        "depot {}: {}, promise {}, log {}, decided {}, days {}",
+        s.config.pid,
+        Told(s.node.state),
+        Told(kept.promise),
+        kept.accepted_idx,
+        kept.decided_idx,
+        total_of(s.book)
+    )
 }
 
 // The table of the three depots, and whether their books are equal.
 pub fn say_table(rt: &impl Print, c: Cluster) -> io::Result<()> {
-    let first = c.site(1);
-    let second = c.site(2);
-    let third = c.site(3);
-    say_site(rt, first)?;
-    say_site(rt, second)?;
-    say_site(rt, third)?;
-    if same_books(first, second) && same_books(first, third) {
-        return say(rt, b"the books are equal\n");
+    for s in &c.sites {
+        say_site(rt, s)?;
     }
-    say(rt, b"the books differ\n")
+    let [first, second, third] = &c.sites;
+    if first.book == second.book && first.book == third.book {
+        return println!(rt; "the books are equal");
+    }
+    println!(rt; "the books differ")
 }
