@@ -1,9 +1,0 @@
--- `replay::feed` is safe and ends: what is left of the bytes falls.
-use Rattle.std.proofs.Common.{length, ◌≤◌, ◌-◌}
-use Rattle.replay.proofs.feed.Given as goal
-
-abbrev pub invariant-loop-i : goal.invariant-loop-i
-invariant-loop-i l = l.i ≤ length l.bytes
-
-abbrev pub decreases-loop-i : goal.decreases-loop-i
-decreases-loop-i l = length l.bytes - l.i

@@ -1,9 +1,0 @@
--- `replay::mix_queue` is safe and ends: what is left of the row falls.
-use Rattle.std.proofs.Common.{◌≤◌, ◌-◌}
-use Rattle.replay.proofs.mix_queue.Given as goal
-
-abbrev pub invariant-loop-k : goal.invariant-loop-k
-invariant-loop-k l = l.k ≤ 64
-
-abbrev pub decreases-loop-k : goal.decreases-loop-k
-decreases-loop-k l = 64 - l.k

@@ -1,6 +1,0 @@
--- `replay::set` is safe and ends: what is left of the words falls.
-use Rattle.std.proofs.Common.{length, ◌-◌}
-use Rattle.replay.proofs.set.Given as goal
-
-abbrev pub decreases-loop-i : goal.decreases-loop-i
-decreases-loop-i l = length l.words - l.i
