@@ -1,2 +1,0 @@
--- Laws that the proofs of `as_found` use.
-pub mod Laws
