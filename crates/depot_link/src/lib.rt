@@ -9,10 +9,13 @@ ghost use Rattle.layout_row.specs.Row.{row_length, row_words, row_in};
 ghost use Rattle.depot_link.specs.Link.{held, told, linked, words_off, node_in, world_in, configuration_of, event_of, written_back, linked_step, Follows, fresh, fresh_in};
 ghost use Rattle.depot_link.specs.Report.{reported, report_in};
 
+use base::Refusal;
 use messages::{Event, Row};
 use quorum::Configuration;
 use record::Record;
 use step::{Answer, Step};
+
+// Kept: the answers of `depots_fresh`, `depots_step`, `depots_step_lent` and `depots_report` are numbers, since C is given them (include/depots.h).
 
 // The record of a box that never ran. 1 where the slice has not the length of a record.
 #[tactic(auto, unfolding(crate::specs::Link::fresh_in))]
@@ -20,7 +23,7 @@ pub fn depots_fresh(record: &mut [u64]) -> u32
     ensures { fresh result «record».new ≡ fresh_in «record».old }
 {
     if record.len() != layout_record::RECORD {
-        return 1;
+        return Refusal::WrongCall.into();
     }
     layout_record::write_record(record, Record::fresh());
     0
@@ -31,16 +34,10 @@ pub fn depots_fresh(record: &mut [u64]) -> u32
 fn words_off(configuration: usize, node: usize, row: usize, event: usize) -> bool
     ensures { result ≡ words_off configuration node row event }
 {
-    if configuration != blocks::WORDS {
-        return true;
-    }
-    if node != layout_record::RECORD {
-        return true;
-    }
-    if row != layout_row::ROW {
-        return true;
-    }
-    event != blocks::WORDS
+    configuration != blocks::WORDS
+        || node != layout_record::RECORD
+        || row != layout_row::ROW
+        || event != blocks::WORDS
 }
 
 #[tactic(auto, unfolding(crate::specs::Link::node_in))]
@@ -75,38 +72,71 @@ fn write_back(node: &mut [u64], row: &mut [u64], x: Step)
     ensures row_after_2 { node_in node.new row.new ≡ cond (eqb x.answer.no 0) x.node (node_in node.old row.old) }
     ensures row_after_3 { row_in row.new ≡ cond (eqb x.answer.no 0) x.row (row_in row.old) }
 {
-    let answer = x.answer;
-    if answer.no != 0 {
-        return;
+    if x.answer.no == 0 {
+        layout_record::write_record(node, x.node);
+        layout_row::write_row(row, x.row);
     }
-    layout_record::write_record(node, x.node);
-    layout_row::write_row(row, x.row);
 }
 
-// The step, with the row of heads lent to `depot::step` on the way, or by value: the promise is the same.
-fn step_by(
-    c: Configuration,
-    r: Record,
-    row: Row,
-    log: &mut [u64],
-    cached: &mut [u64],
-    best: &mut [u64],
-    store: &mut [u64],
-    book: &mut [u64],
-    e: Event,
-    entries: &[u64],
-    lend: bool,
-) -> Step
-    ensures { seen result (lent log.new cached.new best.new store.new book.new) ≡ step_of c e entries.now (world r row (lent log.old cached.old best.old store.old book.old)) }
-{
-    if lend {
-        return own_row::step(c, r, row, log, cached, best, store, book, e, entries);
+// A way to take the whole step.
+trait Way {
+    fn step(
+        c: Configuration,
+        r: Record,
+        row: Row,
+        log: &mut [u64],
+        cached: &mut [u64],
+        best: &mut [u64],
+        store: &mut [u64],
+        book: &mut [u64],
+        e: Event,
+        entries: &[u64],
+    ) -> Step
+        ensures { seen result (lent log.new cached.new best.new store.new book.new) ≡ step_of c e entries.now (world r row (lent log.old cached.old best.old store.old book.old)) };
+}
+
+// With the row of heads by value.
+struct ByValue;
+
+impl Way for ByValue {
+    fn step(
+        c: Configuration,
+        r: Record,
+        row: Row,
+        log: &mut [u64],
+        cached: &mut [u64],
+        best: &mut [u64],
+        store: &mut [u64],
+        book: &mut [u64],
+        e: Event,
+        entries: &[u64],
+    ) -> Step {
+        depot_row::step_row(c, r, row, log, cached, best, store, book, e, entries)
     }
-    depot_row::step_row(c, r, row, log, cached, best, store, book, e, entries)
+}
+
+// With the row of heads lent to `depot::step` on the way.
+struct Lending;
+
+impl Way for Lending {
+    fn step(
+        c: Configuration,
+        r: Record,
+        row: Row,
+        log: &mut [u64],
+        cached: &mut [u64],
+        best: &mut [u64],
+        store: &mut [u64],
+        book: &mut [u64],
+        e: Event,
+        entries: &[u64],
+    ) -> Step {
+        own_row::step(c, r, row, log, cached, best, store, book, e, entries)
+    }
 }
 
 // The step over a record and a row of the right length.
-fn step_words(
+fn step_words<W: Way>(
     c: Configuration,
     e: Event,
     node: &mut [u64],
@@ -117,7 +147,6 @@ fn step_words(
     store: &mut [u64],
     book: &mut [u64],
     entries: &[u64],
-    lend: bool,
 ) -> Answer
     requires node_len { length node.old ≡ record_length }
     requires row_len { length row.old ≡ row_length }
@@ -126,15 +155,13 @@ fn step_words(
 {
     let r = node_in(node, row);
     let heads = layout_row::read_row(row);
-    let x = step_by(
-        c, r, heads, log, cached, best, store, book, e, entries, lend,
-    );
+    let x = W::step(c, r, heads, log, cached, best, store, book, e, entries);
     write_back(node, row, x);
     x.answer
 }
 
 // The step over slices of any length.
-fn linked_step(
+fn linked_step<W: Way>(
     configuration: &[u64],
     record: &mut [u64],
     row: &mut [u64],
@@ -147,7 +174,6 @@ fn linked_step(
     entries: &[u64],
     dropped: &mut u64,
     handed_out: &mut u64,
-    lend: bool,
 ) -> u32
     ensures book_after { linked result dropped.new handed_out.new (held «record».new row.new (lent log.new cached.new best.new store.new book.new)) ≡ linked_step configuration.now event.now entries.now (held «record».old row.old (lent log.old cached.old best.old store.old book.old)) }
     ensures follows { Follows configuration.now event.now entries.now (held «record».old row.old (lent log.old cached.old best.old store.old book.old)) (held «record».new row.new (lent log.new cached.new best.new store.new book.new)) }
@@ -155,13 +181,11 @@ fn linked_step(
     *dropped = 0;
     *handed_out = 0;
     if words_off(configuration.len(), record.len(), row.len(), event.len()) {
-        return 1;
+        return Refusal::WrongCall.into();
     }
     let c = configuration_of(configuration);
     let e = event_of(event);
-    let a = step_words(
-        c, e, record, row, log, cached, best, store, book, entries, lend,
-    );
+    let a = step_words::<W>(c, e, record, row, log, cached, best, store, book, entries);
     *dropped = a.dropped as u64;
     *handed_out = a.handed_out as u64;
     a.no
@@ -186,7 +210,7 @@ pub fn depots_step(
     ensures book_after { linked result dropped.new handed_out.new (held «record».new row.new (lent log.new cached.new best.new store.new book.new)) ≡ linked_step configuration.now event.now entries.now (held «record».old row.old (lent log.old cached.old best.old store.old book.old)) }
     ensures follows { Follows configuration.now event.now entries.now (held «record».old row.old (lent log.old cached.old best.old store.old book.old)) (held «record».new row.new (lent log.new cached.new best.new store.new book.new)) }
 {
-    linked_step(
+    linked_step::<ByValue>(
         configuration,
         record,
         row,
@@ -199,7 +223,6 @@ pub fn depots_step(
         entries,
         dropped,
         handed_out,
-        false,
     )
 }
 
@@ -221,7 +244,7 @@ pub fn depots_step_lent(
     ensures book_after { linked result dropped.new handed_out.new (held «record».new row.new (lent log.new cached.new best.new store.new book.new)) ≡ linked_step configuration.now event.now entries.now (held «record».old row.old (lent log.old cached.old best.old store.old book.old)) }
     ensures follows { Follows configuration.now event.now entries.now (held «record».old row.old (lent log.old cached.old best.old store.old book.old)) (held «record».new row.new (lent log.new cached.new best.new store.new book.new)) }
 {
-    linked_step(
+    linked_step::<Lending>(
         configuration,
         record,
         row,
@@ -234,7 +257,6 @@ pub fn depots_step_lent(
         entries,
         dropped,
         handed_out,
-        true,
     )
 }
 
@@ -244,14 +266,11 @@ pub fn depots_report(book: &[u64], out: &mut [u8], count: &mut u64) -> u32
     ensures { reported result count.new out.new ≡ report_in book.now out.old }
 {
     *count = 0;
-    if book.len() != hire_book::BOOK {
-        return 1;
-    }
-    if out.len() < page::REPORT_BYTES {
-        return 1;
+    if book.len() != hire_book::BOOK || out.len() < page::REPORT_BYTES {
+        return Refusal::WrongCall.into();
     }
     if hire_book::any_broken(book) {
-        return 2;
+        return Refusal::Broken.into();
     }
     let n = page::put_page(out, book);
     *count = n as u64;
