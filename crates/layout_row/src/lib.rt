@@ -2,6 +2,8 @@
 #![tactic(auto)]
 
 ghost use Rattle.std.specs.Prelude.{◌≡◌, false, length};
+ghost use Rattle.ballot.specs.Ballot.{default};
+ghost use Rattle.sequence.specs.Sequence.{first};
 ghost use Rattle.layout_row.specs.Fields.{fields_as, promise_fields, fields_of, promise_of, message_of, fields_in};
 ghost use Rattle.layout_row.specs.Row.{row_length, head_words, row_words, NarrowHead, head_in, head_most, no_row, row_in};
 ghost use Rattle.layout_row.specs.Event.{event_most, unfit_from, event_of, event_in, quorum_of, configuration_in};
@@ -71,84 +73,69 @@ pub struct Fields {
     pub sync_idx: usize,
 }
 
-fn promise_fields(m: Promise) -> Fields
-    ensures { result ≡ promise_fields m }
-{
-    Fields {
-        kind: PROMISE,
-        n: m.n,
-        n_accepted: m.n_accepted,
-        seq_num: SequenceNumber::default(),
-        decided_idx: m.decided_idx,
-        accepted_idx: m.accepted_idx,
-        with_sync: tags::option_tag(m.log_sync),
-        sync_idx: m.log_sync.unwrap_or(0),
-    }
-}
-
-// Fields with no log sync of a Promise.
-fn fields_as(
-    kind: u64,
-    n: Ballot,
-    n_accepted: Ballot,
-    seq_num: SequenceNumber,
-    decided_idx: usize,
-    accepted_idx: usize,
-    sync_idx: usize,
-) -> Fields
-    ensures { result ≡ fields_as kind n n_accepted seq_num decided_idx accepted_idx 0 sync_idx }
+// The fields of a message that has none but its ballot.
+fn fields_as(kind: u64, n: Ballot) -> Fields
+    ensures { result ≡ fields_as kind n default first 0 0 0 0 }
 {
     Fields {
         kind,
         n,
-        n_accepted,
-        seq_num,
-        decided_idx,
-        accepted_idx,
+        n_accepted: Ballot::default(),
+        seq_num: SequenceNumber::default(),
+        decided_idx: 0,
+        accepted_idx: 0,
         with_sync: 0,
-        sync_idx,
+        sync_idx: 0,
+    }
+}
+
+fn promise_fields(m: Promise) -> Fields
+    ensures { result ≡ promise_fields m }
+{
+    Fields {
+        n_accepted: m.n_accepted,
+        decided_idx: m.decided_idx,
+        accepted_idx: m.accepted_idx,
+        with_sync: tags::option_tag(m.log_sync),
+        sync_idx: m.log_sync.unwrap_or(0),
+        ..fields_as(PROMISE, m.n)
     }
 }
 
 fn fields_of(m: PaxosMsg) -> Fields
     ensures { result ≡ fields_of m }
 {
-    let none = Ballot::default();
-    let first = SequenceNumber::default();
     match m {
-        PaxosMsg::PrepareReq(x) => fields_as(PREPARE_REQ, x.n, none, first, 0, 0, 0),
-        PaxosMsg::Prepare(x) => fields_as(
-            PREPARE,
-            x.n,
-            x.n_accepted,
-            first,
-            x.decided_idx,
-            x.accepted_idx,
-            0,
-        ),
+        PaxosMsg::PrepareReq(x) => fields_as(PREPARE_REQ, x.n),
+        PaxosMsg::Prepare(x) => Fields {
+            n_accepted: x.n_accepted,
+            decided_idx: x.decided_idx,
+            accepted_idx: x.accepted_idx,
+            ..fields_as(PREPARE, x.n)
+        },
         PaxosMsg::Promise(x) => promise_fields(x),
-        PaxosMsg::AcceptSync(x) => fields_as(
-            ACCEPT_SYNC,
-            x.n,
-            none,
-            x.seq_num,
-            x.decided_idx,
-            0,
-            x.sync_idx,
-        ),
-        PaxosMsg::AcceptDecide(x) => fields_as(
-            ACCEPT_DECIDE,
-            x.n,
-            none,
-            x.seq_num,
-            x.decided_idx,
-            0,
-            0,
-        ),
-        PaxosMsg::Accepted(x) => fields_as(ACCEPTED, x.n, none, first, 0, x.accepted_idx, 0),
-        PaxosMsg::NotAccepted(x) => fields_as(NOT_ACCEPTED, x.n, none, first, 0, 0, 0),
-        PaxosMsg::Decide(x) => fields_as(DECIDE, x.n, none, x.seq_num, x.decided_idx, 0, 0),
-        PaxosMsg::ProposalForward => fields_as(PROPOSAL_FORWARD, none, none, first, 0, 0, 0),
+        PaxosMsg::AcceptSync(x) => Fields {
+            seq_num: x.seq_num,
+            decided_idx: x.decided_idx,
+            sync_idx: x.sync_idx,
+            ..fields_as(ACCEPT_SYNC, x.n)
+        },
+        PaxosMsg::AcceptDecide(x) => Fields {
+            seq_num: x.seq_num,
+            decided_idx: x.decided_idx,
+            ..fields_as(ACCEPT_DECIDE, x.n)
+        },
+        PaxosMsg::Accepted(x) => Fields {
+            accepted_idx: x.accepted_idx,
+            ..fields_as(ACCEPTED, x.n)
+        },
+        PaxosMsg::NotAccepted(x) => fields_as(NOT_ACCEPTED, x.n),
+        PaxosMsg::Decide(x) => Fields {
+            seq_num: x.seq_num,
+            decided_idx: x.decided_idx,
+            ..fields_as(DECIDE, x.n)
+        },
+        PaxosMsg::ProposalForward => fields_as(PROPOSAL_FORWARD, Ballot::default()),
     }
 }
 
@@ -346,28 +333,13 @@ fn event_of(kind: u64, pid: u64, f: Fields) -> Event
     }
 }
 
+// As a head's, and word 14 is the event's kind.
 fn event_most() -> Block
     ensures { result ≡ event_most }
 {
-    let m = blocks::MOST_32;
-    [
-        0,
-        PROPOSAL_FORWARD,
-        m,
-        m,
-        0,
-        m,
-        m,
-        0,
-        0,
-        0,
-        0,
-        0,
-        1,
-        0,
-        RESTART,
-        0,
-    ]
+    let mut most = head_most();
+    most[14] = RESTART;
+    most
 }
 
 // The event of a block. A block that means none is an unfit message from the depot in word 0.

@@ -35,6 +35,7 @@ fn lead(rt: &impl Print, c: &mut Cluster) -> io::Result<()> {
     drain(rt, c, 3, None)
 }
 
+// Kept here, as cluster_case has its like: one line in each program is no longer than a third function that both would call.
 fn propose(rt: &impl Print, c: &mut Cluster, entry: u64) -> io::Result<()> {
     act(rt, c, 1, b" is given", Event::Propose, &[entry])
 }
