@@ -226,6 +226,7 @@ pub fn depots_step(
     )
 }
 
+// Kept beside depots_step: C links both names, and each exported function states its promise itself.
 // The same step with its row of heads lent to `depot::step` on the way, as a caller in Rattle lends it: for the replay and the benchmark.
 pub fn depots_step_lent(
     configuration: &[u64],

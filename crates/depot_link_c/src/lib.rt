@@ -50,6 +50,7 @@ pub extern "C" fn depots_step(
     )
 }
 
+// Kept beside depots_step: C links both names, and each exported function states its promise itself; the answers are the numbers of include/depots.h.
 // The same step with its row of heads lent to `depot::step` on the way, as a caller in Rattle lends it: for the replay and the benchmark.
 #[unsafe(no_mangle)]
 pub extern "C" fn depots_step_lent(

@@ -119,6 +119,7 @@ impl fmt::Display for Told<&[u64]> {
     }
 }
 
+// Kept, here and below: public calls whose texts are bytes, since a `&str` asks more of callers; what they show is Display of `Told`.
 pub fn say(rt: &impl Print, text: &[u8]) -> io::Result<()> {
     rt.write_all(text)
 }
