@@ -9,7 +9,7 @@ use Rattle.depot_link.proofs.linked_step.Goals as goal
 pub returns-then-words_off-clause-book_after : goal.returns-then-words_off-clause-book_after
 returns-then-words_off-clause-book_after g c = let h = held c.args.«record».now c.args.row.now (lent c.args.log.now c.args.cached.now c.args.best.now c.args.store.now c.args.book.now) in
     let k = sym c.words_off.ensures ∙ c.if-words_off.true in
-    link-off c.args.configuration.now c.args.event.now c.args.entries.now h k
+    rw c.into.ensures (link-off c.args.configuration.now c.args.event.now c.args.entries.now h k)
 
 pub returns-clause-book_after : goal.returns-clause-book_after
 returns-clause-book_after g c = let h = held c.args.«record».now c.args.row.now (lent c.args.log.now c.args.cached.now c.args.best.now c.args.store.now c.args.book.now) in

@@ -1,0 +1,2 @@
+-- Laws that the proofs of `as_found` use.
+pub mod Laws
