@@ -20,7 +20,7 @@
    A box takes 61,056 bytes, all lent by the caller: no call allocates, and none keeps anything between calls. So a box is one thread's at
    a time, and different boxes may be stepped by different threads at once.
 
-   Stack: a step touches about 213 KB of its thread's stack. Give a thread that steps DEPOTS_STACK bytes (256 KB) or more; one of 128 KB
+   Stack: a step touches about 160 KB of its thread's stack. Give a thread that steps DEPOTS_STACK bytes (256 KB) or more; one of 128 KB
    dies. examples/c/stack.c measures it. */
 #ifndef DEPOTS_H
 #define DEPOTS_H

@@ -45,7 +45,7 @@
 //! The types cover everything that a box is asked and answers. Below them lies [`Depot`], the same box as plain words
 //! (docs/LAYOUT.md), for tools and tests that look at the words themselves.
 //!
-//! A step touches about 213 KB of stack; [`STACK`] is what a thread that steps should have at least.
+//! A step touches about 160 KB of stack; [`STACK`] is what a thread that steps should have at least.
 #![warn(missing_docs)]
 
 mod ballot;
@@ -67,5 +67,5 @@ pub use event::Event;
 pub use message::{Message, Outgoing};
 pub use refusal::Refusal;
 
-/// The stack, in bytes, that a thread should have to step a box: a step touches about 213 KB, and a thread of 128 KB dies. A thread that `std` starts has 2 MiB.
+/// The stack, in bytes, that a thread should have to step a box: a step touches about 160 KB, and a thread of 128 KB dies. A thread that `std` starts has 2 MiB.
 pub const STACK: usize = 256 * 1024;
