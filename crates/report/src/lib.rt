@@ -58,61 +58,58 @@ impl Reader {
         }
     }
 
-    fn with_byte(self, byte: u8) -> Self
-        ensures { result ≡ with_byte byte self }
+    fn with_byte(&mut self, byte: u8)
+        ensures { self.new ≡ with_byte byte self.old }
     {
-        Reader {
-            any: true,
-            value: value_after(self.value, byte),
-            ..self
-        }
+        self.any = true;
+        self.value = value_after(self.value, byte);
     }
 
-    fn next_line(self) -> Self
-        ensures { result ≡ next_line self }
+    fn next_line(&mut self)
+        ensures { self.new ≡ next_line self.old }
     {
-        Reader {
-            line: line_after(self.line),
-            any: false,
-            value: 0,
-            ..self
-        }
+        self.line = line_after(self.line);
+        self.any = false;
+        self.value = 0;
     }
 
-    fn marked(self) -> Self
-        ensures { result ≡ marked self }
+    fn marked(&mut self)
+        ensures { self.new ≡ marked self.old }
     {
-        Reader { bad: true, ..self }
+        self.bad = true;
     }
 
     // A line ends: its entry is applied, or the line is bad.
     #[tactic(auto, unfolding(crate::specs::Reading::end_of))]
-    fn end_line(self, book: &mut [u64]) -> Self
+    fn end_line(&mut self, book: &mut [u64])
         requires { Sound book.old }
-        ensures { reading result book.new ≡ end_of (reading self book.old) }
+        ensures { reading self.new book.new ≡ end_of (reading self.old book.old) }
     {
         if !self.any || base::MAX_ENTRY < self.value {
-            return self.marked();
+            self.marked();
+        } else {
+            hire_book::apply_fit(book, self.value);
+            self.next_line();
         }
-        hire_book::apply_fit(book, self.value);
-        self.next_line()
     }
 
     // A byte of a line, or the line's end; after a bad line all is skipped.
     #[tactic(auto, unfolding(crate::specs::Reading::byte_of))]
-    fn take_byte(self, byte: u8, book: &mut [u64]) -> Self
+    fn take_byte(&mut self, byte: u8, book: &mut [u64])
         requires { Sound book.old }
-        ensures { reading result book.new ≡ byte_of byte (reading self book.old) }
+        ensures { reading self.new book.new ≡ byte_of byte (reading self.old book.old) }
     {
         if self.bad {
-            self
-        } else if byte == b'\n' {
-            self.end_line(book)
+            return;
+        }
+        if byte == b'\n' {
+            self.end_line(book);
         } else {
-            self.with_byte(byte)
+            self.with_byte(byte);
         }
     }
 
+    // In place, since this runs for every byte: a reader by value is copied at each turn, which takes twice the time.
     #[tactic(auto, unfolding(crate::specs::Reading::feed_of))]
     fn take_part(self, part: &[u8], book: &mut [u64]) -> Self
         requires { Sound book.old }
@@ -120,19 +117,19 @@ impl Reader {
     {
         let mut at = self;
         for &byte in part {
-            at = at.take_byte(byte, book);
+            at.take_byte(byte, book);
         }
         at
     }
 
     // The input ends: a line that has begun ends too.
     #[tactic(auto, unfolding(crate::specs::Reading::last_of))]
-    fn take_last(self, book: &mut [u64]) -> Self
+    fn take_last(mut self, book: &mut [u64]) -> Self
         requires { Sound book.old }
         ensures { reading result book.new ≡ last_of (reading self book.old) }
     {
         if self.any && !self.bad {
-            return self.end_line(book);
+            self.end_line(book);
         }
         self
     }

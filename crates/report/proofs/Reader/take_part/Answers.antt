@@ -8,6 +8,6 @@ use Rattle.report.proofs.Reader.take_part.Goals as goal
 pub loop-byte-preserved : goal.loop-byte-preserved
 loop-byte-preserved c =
     let i = c.loop-byte.byte-index in (
-      turn-sound (get_or c.args.part.now i 0) (reading c.loop-byte.at c.loop-byte.book) c.take_byte-at.ensures c.loop-byte.invariant.0,
-      feed-turn (reading c.args.self c.args.book.now) c.args.part.now i (search rules) c.loop-byte.invariant.1 c.take_byte-at.ensures,
+      turn-sound (get_or c.args.part.now i 0) (reading c.loop-byte.at c.loop-byte.book) c.take_byte.ensures c.loop-byte.invariant.0,
+      feed-turn (reading c.args.self c.args.book.now) c.args.part.now i (search rules) c.loop-byte.invariant.1 c.take_byte.ensures,
     )
