@@ -45,12 +45,14 @@ pub fn edit(heads: &mut [Head], at: usize, decided_idx: usize, count: usize)
 }
 
 // The heads of one row go over the start of another, as far as both go.
+// Kept: a `for`, since by `copy_from_slice` the archive for C needs memmove from outside.
 #[tactic(auto, unfolding(base::specs::Lists::over))]
 fn copy_front(to: &mut [Head], from: &[Head])
     ensures { to.new ≡ over (take (length to.old) from.now) to.old }
 {
-    let n = to.len().min(from.len());
-    to[..n].copy_from_slice(&from[..n]);
+    for i in 0..to.len().min(from.len()) {
+        push(to, i, get(from, i));
+    }
 }
 
 fn blank() -> Row
