@@ -1,5 +1,5 @@
 -- No drain left, nobody to drain, and one drain more.
-use Rattle.std.proofs.Common.{◌≡◌, ℕ, zero, suc, ◌≤◌, arith, refl, sym, ◌∙◌, None, Some}
+use Rattle.std.proofs.Common.{◌≡◌, ℕ, zero, suc, ◌≤◌, arith, refl, None, Some}
 use Rattle.cluster.specs.declared.Cluster.{Cluster}
 use Rattle.rounds.specs.Drains.{drained, next_sender, settled}
 

@@ -9,18 +9,15 @@ ghost use Rattle.rounds.specs.Drains.{is_lost, carry_at, drained, waits_at, next
 use cluster::{Cluster, Site};
 use messages::{Event, Head};
 use std::io;
-use telling::{Told, say, say_answer, say_entries};
+use telling::{say, say_answer, say_ballot, say_entries, say_message, say_number, say_state};
 
 // A message of a depot's row, with its entries.
 pub fn say_head(rt: &impl Print, from: Site, head: Head) -> io::Result<()> {
-    let entries = storage::part(&from.store, head.start, head.count);
-    print!(rt;
-        "  {} to {}: {}{}",
-        from.config.pid,
-        head.to,
-        Told(head.msg),
-        Told(entries)
-    )
+    say_number(rt, b"  ", from.config.pid)?;
+    say_number(rt, b" to ", head.to)?;
+    say(rt, b": ")?;
+    say_message(rt, head.msg)?;
+    say_entries(rt, storage::part(&from.store, head.start, head.count))
 }
 
 fn say_act(rt: &impl Print, pid: u64, what: &[u8], entries: &[u64], no: u32) -> io::Result<()> {
@@ -151,11 +148,11 @@ pub fn total_of(book: [u64; hire_book::BOOK]) -> u64
 // A line of the table: what a depot promised and holds.
 fn say_site(rt: &impl Print, s: &Site) -> io::Result<()> {
     let kept = s.node.internal_storage;
+    print!(rt; "depot {}: ", s.config.pid)?;
+    say_state(rt, s.node.state)?;
+    say_ballot(rt, b", promise ", kept.promise)?;
     println!(rt;
-        "depot {}: {}, promise {}, log {}, decided {}, days {}",
-        s.config.pid,
-        Told(s.node.state),
-        Told(kept.promise),
+        ", log {}, decided {}, days {}",
         kept.accepted_idx,
         kept.decided_idx,
         total_of(s.book)
