@@ -21,6 +21,7 @@ pub struct Stepped {
 }
 
 // The step on the row by value, where the lent row is n heads long: another length than 64 gets 1, and everything is as found.
+#[tactic(auto, unfolding(crate::specs::Heads::step_sized))]
 fn step_sized(
     c: Configuration,
     r: Record,
