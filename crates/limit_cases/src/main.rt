@@ -9,7 +9,7 @@ use paxos_box::{InternalStorage, Phase, Role, State};
 use quorum::{Configuration, FlexibleQuorum, Quorum};
 use sequence::SequenceNumber;
 use std::io;
-use telling::say_answer;
+use telling::{say_answer, say_number};
 
 // The ballot of depot 1 in its first round.
 fn first_ballot() -> Ballot {
@@ -77,13 +77,11 @@ fn carried(s: &Site) -> usize {
 
 // What a taken step leaves: the log's length, the buffered proposals, the queue.
 fn say_sizes(rt: &impl Print, s: &Site) -> io::Result<()> {
-    println!(rt;
-        "; log {}, buffered {}, queue {} with {}",
-        s.node.internal_storage.accepted_idx,
-        s.node.buffered_proposals.len,
-        s.node.outgoing,
-        carried(s)
-    )
+    say_number(rt, b"; log ", s.node.internal_storage.accepted_idx as u64)?;
+    say_number(rt, b", buffered ", s.node.buffered_proposals.len as u64)?;
+    say_number(rt, b", queue ", s.node.outgoing as u64)?;
+    say_number(rt, b" with ", carried(s) as u64)?;
+    println!(rt; "")
 }
 
 fn say_found(rt: &impl Print, before: Site, after: Site) -> io::Result<()> {
